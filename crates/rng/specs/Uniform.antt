@@ -1,0 +1,22 @@
+-- A uniform number of a drawn word: its top 53 bits over 2 ^ 53. Definitions, and the claim that nothing is rounded.
+use Prim.Native.Nat.{ℕ, _/_, _^_, _<_}
+use mathlib.Core.Bool.{false}
+use lib.Ieee.{Float, binary64, round}
+use lib.Ieee.Exact.{HasValue}
+use Rattle.rng.specs.Xoshiro.{drawOf}
+use Rattle.rng.specs.declared.Rng.{Rng}
+use Rattle.rng.specs.declared.Uniform.{Uniform}
+
+-- the f64 nearest to (raw / 2 ^ 11) / 2 ^ 53, where raw / 2 ^ 11 is the whole part
+unfoldable pub uniformOf : ℕ → Float
+unfolding round
+uniformOf raw = round binary64 false (raw / 2 ^ 11) (2 ^ 53)
+
+unfoldable pub uniformDrawOf : Rng → Uniform
+unfolding drawOf uniformOf
+uniformDrawOf g = record { value = uniformOf (drawOf g .value); rng = drawOf g .rng }
+
+-- that fraction is an f64: the number is the fraction itself, with a clear sign, and below 1
+pub record ExactUniform (raw : ℕ) : Type 0 where
+  pub exact : HasValue (uniformOf raw) false (raw / 2 ^ 11) (2 ^ 53)
+  pub below-one : raw / 2 ^ 11 < 2 ^ 53

@@ -1,0 +1,186 @@
+-- The cases of `sqrt`, by its tests. Assumes nothing.
+use mathlib.Core.Path.{_≡_, refl, sym, ap, _∙_, subst}
+use Prim.Native.Nat.{ℕ, zero, suc, _+_, _-_, _*_, _/_, _%_, _^_, _≤_, _<_}
+use native.Mathlib.Nat.{le-trans, le-of-eq, lt-of-lt-of-le, lt-of-le-of-lt, lt-irrefl, zero-lt-suc, zero-mul, mul-pos, mul-one, mul-comm, mul-assoc, mul-right-comm, mul-le-mul, mul-le-mul-left, mul-le-mul-right, mul-lt-mul-of-pos-right, le-div-iff-mul-le, div-lt-iff-lt-mul, one-mul, mod-eq-of-lt, div-one}
+use native.Mathlib.Omega.{arith}
+use mathlib.Core.Logic.{_⊎_, inl, inr}
+use mathlib.Core.Bool.{Bool, true, false, not, _&&_, _||_, Bool·beq, cond, true≢false, false≢true}
+use lib.IntN.{ℤ, pos, negsuc}
+use lib.Dec.{T, leb, ltb, eqb, ltb→lt, leb→le, eqb→eq, not-T, eqb-refl, lt→ltb}
+use lib.Pow.{pow-pos, pow-mono, pow-add}
+use borrow.Author.Tests.{lt-ltb, le-ltb, eq-eqb}
+use lib.Ieee.{Float, nan, inf, fin, binary64, up, down, size, lt, eq, div, fits, isNan, toBits, ofBits, nanBits}
+use lib.Ieee.Digits.{size-le}
+use lib.Ieee.Fits.{kept-lt, down-pos, up-pos, and-l, and-r}
+use lib.Ieee.Bits.{is-true, is-false, ofBits-toBits, nanBits-above}
+use Rattle.root.specs.Sqrt.{sqrtUnits, sqrtOf}
+use Rattle.root.specs.Parts.{unitsBits}
+use Rattle.root.proofs.Patterns.{infinity, sqrt-of-bits}
+
+-- ---- the code's constants
+
+abbrev pub nought : Float
+nought = ofBits binary64 0
+
+abbrev pub endless : Float
+endless = div binary64 (ofBits binary64 0x3ff0_0000_0000_0000) (ofBits binary64 0)
+
+nought-is : nought ≡ fin false 0 (pos 0)
+unfolding ofBits
+nought-is = refl
+
+endless-is : endless ≡ inf false
+unfolding ofBits div
+endless-is = refl
+
+pub nan-is : div binary64 nought nought ≡ nan
+unfolding ofBits div
+nan-is = refl
+
+-- ---- the tests, at the values
+
+clash : (b : Bool) → b ≡ true → b ≡ false → ⊥
+clash b p q = true≢false (sym p ∙ q)
+
+-- above zero and below the infinity
+pub record Between (x : Float) : Type 0 where
+  pub m : ℕ
+  pub e : ℤ
+  pub is : x ≡ fin false (suc m) e
+
+below-zero : (e : ℤ) → ltb (0 * down e) (0 * up e * 1) ≡ false
+below-zero e = ap (λ (z : ℕ). ltb (0 * down e) (z * 1)) (zero-mul (up e)) ∙ le-ltb (0 * down e) 0 (omega arith)
+
+between′ : (x : Float) → lt (fin false 0 (pos 0)) x ≡ true → lt x (inf false) ≡ true → Between x
+unfolding lt
+between′ nan p q = absurd (false≢true p)
+between′ (inf true) p q = absurd (false≢true p)
+between′ (inf false) p q = absurd (false≢true q)
+between′ (fin true m e) p q = absurd (false≢true p)
+between′ (fin false zero e) p q = absurd (clash (ltb (0 * down e) (0 * up e * 1)) p (below-zero e))
+between′ (fin false (suc m) e) p q = record { m = m; e = e; is = refl }
+
+pub between : (x : Float) → lt nought x ≡ true → lt x endless ≡ true → Between x
+between x p q = between′ x (subst (λ (z : Float). lt z x ≡ true) nought-is p) (subst (λ (z : Float). lt x z ≡ true) endless-is q)
+
+top′ : (x : Float) → lt (fin false 0 (pos 0)) x ≡ true → lt x (inf false) ≡ false → x ≡ sqrtOf x
+unfolding lt sqrtOf
+top′ nan p q = absurd (false≢true p)
+top′ (inf true) p q = absurd (false≢true p)
+top′ (inf false) p q = refl
+top′ (fin true m e) p q = absurd (false≢true p)
+top′ (fin false m e) p q = absurd (true≢false q)
+
+pub at-top : (x : Float) → lt nought x ≡ true → lt x endless ≡ false → x ≡ sqrtOf x
+at-top x p q = top′ x (subst (λ (z : Float). lt z x ≡ true) nought-is p) (subst (λ (z : Float). lt x z ≡ false) endless-is q)
+
+and-true : (a b : Bool) → (a && b) ≡ true → a ≡ true
+and-true true b p = refl
+and-true false b p = absurd (false≢true p)
+
+zero′ : (x : Float) → eq x (fin false 0 (pos 0)) ≡ true → x ≡ sqrtOf x
+unfolding eq sqrtOf
+zero′ nan p = absurd (false≢true p)
+zero′ (inf s) p = absurd (false≢true p)
+zero′ (fin s zero e) p = refl
+zero′ (fin s (suc m) e) p =
+    let t : eqb (suc m * up e * 1) (0 * down e) ≡ true = and-true (eqb (suc m * up e * 1) (0 * down e)) (Bool·beq s false || eqb (suc m * up e * 1) 0) p in
+    let q : suc m * up e * 1 ≡ 0 * down e = eqb→eq (suc m * up e * 1) (0 * down e) (subst T (sym t) tt) in
+    absurd (lt-irrefl 0 (subst (λ (z : ℕ). 0 < z) (sym (mul-one (suc m * up e)) ∙ q ∙ zero-mul (down e)) (mul-pos (zero-lt-suc m) (up-pos e))))
+
+pub at-zero : (x : Float) → eq x nought ≡ true → x ≡ sqrtOf x
+at-zero x p = zero′ x (subst (λ (z : Float). eq x z ≡ true) nought-is p)
+
+zeros-equal : (s : Bool) (e : ℤ) → (eqb (0 * up e * 1) (0 * down e) && (Bool·beq s false || eqb (0 * up e * 1) 0)) ≡ true
+zeros-equal s e = both (eqb (0 * up e * 1) (0 * down e)) (Bool·beq s false) (eqb (0 * up e * 1) 0) (eq-eqb (0 * up e * 1) (0 * down e) (z ∙ sym (zero-mul (down e)))) (eq-eqb (0 * up e * 1) 0 z)
+  where
+    z : 0 * up e * 1 ≡ 0
+    z = mul-one (0 * up e) ∙ zero-mul (up e)
+
+    both : (a b c : Bool) → a ≡ true → c ≡ true → (a && (b || c)) ≡ true
+    both true true c p q = refl
+    both true false c p q = q
+    both false b c p q = absurd (false≢true p)
+
+none′ : (x : Float) → lt (fin false 0 (pos 0)) x ≡ false → eq x (fin false 0 (pos 0)) ≡ false → sqrtOf x ≡ nan
+unfolding lt eq sqrtOf
+none′ nan p q = refl
+none′ (inf true) p q = refl
+none′ (inf false) p q = absurd (true≢false p)
+none′ (fin s zero e) p q = absurd (true≢false (sym (zeros-equal s e) ∙ q))
+none′ (fin true (suc m) e) p q = refl
+none′ (fin false (suc m) e) p q =
+    absurd (clash (ltb (0 * down e) (suc m * up e * 1))
+    (lt-ltb (0 * down e) (suc m * up e * 1) (subst (λ (z : ℕ). z < suc m * up e * 1) (sym (zero-mul (down e))) (mul-pos (mul-pos (zero-lt-suc m) (up-pos e)) (zero-lt-suc 0)))) p)
+
+pub at-none : (x : Float) → lt nought x ≡ false → eq x nought ≡ false → div binary64 nought nought ≡ sqrtOf x
+at-none x p q = nan-is ∙ sym (none′ x (subst (λ (z : Float). lt z x ≡ false) nought-is p) (subst (λ (z : Float). eq x z ≡ false) nought-is q))
+
+-- ---- the pattern of a value between
+
+pub not-nan : (x : Float) → Between x → T (not (isNan x))
+unfolding isNan
+not-nan x b = subst (λ (z : Float). T (not (isNan z))) (sym (b .is)) tt
+
+abbrev In : ℕ → Type 0
+In b = (0 < b) × (b < infinity)
+
+pub toBits-is : (m : ℕ) (e : ℤ) → toBits binary64 (fin false m e) ≡ 0 + (size (m * up e * 2 ^ 1074 / down e) - 53) * 2 ^ 52 + m * up e * 2 ^ 1074 / down e / 2 ^ (size (m * up e * 2 ^ 1074 / down e) - 53)
+unfolding toBits
+toBits-is m e = refl
+
+pattern-in : (n : ℕ) → 0 < n → n < 2 ^ 2098 → In (0 + (size n - 53) * 2 ^ 52 + n / 2 ^ (size n - 53))
+pattern-in n p h = go (size n - 53) (cut (size n) (size-le n 2098 h)) (kept-lt 53 n)
+  where
+    cut : (z : ℕ) → z ≤ 2098 → z - 53 ≤ 2045
+    cut z h = omega arith
+
+    go : (k : ℕ) → k ≤ 2045 → n / 2 ^ k < 2 ^ 53 → In (0 + k * 2 ^ 52 + n / 2 ^ k)
+    go zero l u = (subst (λ (z : ℕ). 0 < 0 + 0 * 2 ^ 52 + z) (sym (div-one n)) (omega arith), omega arith)
+    go (suc k) l u = (omega arith, omega arith)
+
+units-pos : (m : ℕ) (e : ℤ) → down e ≤ 2 ^ 1074 → 0 < suc m * up e * 2 ^ 1074 / down e
+units-pos m e h = le-div-iff-mul-le (down-pos e) .1 (le-trans (le-of-eq (one-mul (down e))) (le-trans h (le-trans (le-of-eq (sym (one-mul (2 ^ 1074)))) (mul-le-mul-right (2 ^ 1074) (mul-pos (zero-lt-suc m) (up-pos e))))))
+
+units-lt : (m : ℕ) (e : ℤ) → m * up e < 2 ^ 1024 * down e → m * up e * 2 ^ 1074 / down e < 2 ^ 2098
+units-lt m e h =
+    div-lt-iff-lt-mul (down-pos e) .1
+    (lt-of-lt-of-le (mul-lt-mul-of-pos-right h (pow-pos 1074)) (le-of-eq (mul-right-comm (2 ^ 1024) (down e) (2 ^ 1074) ∙ ap (λ (z : ℕ). z * down e) (sym (pow-add 2 1024 1074)))))
+
+fits-down : (m : ℕ) (e : ℤ) → T (fits binary64 (fin false (suc m) e)) → (down e ≤ 2 ^ 1074) × (suc m * up e < 2 ^ 1024 * down e)
+unfolding fits
+fits-down m e t =
+    let a = eqb (suc m % 2) 1 in
+    let b = ltb (suc m) (2 ^ 53) in
+    let c = leb (down e) (2 ^ 1074) in
+    let d = ltb (suc m * up e) (2 ^ 1024 * down e) in
+    (leb→le (down e) (2 ^ 1074) (and-r (a && b) c (and-l (a && b && c) d t)), ltb→lt (suc m * up e) (2 ^ 1024 * down e) (and-r (a && b && c) d t))
+
+pub bits-in : (x : Float) → T (fits binary64 x) → Between x → In (toBits binary64 x)
+bits-in x t b =
+    let m = b .m in
+    let e = b .e in
+    let f = fits-down m e (subst (λ (z : Float). T (fits binary64 z)) (b .is) t) in
+    subst In (sym (ap (toBits binary64) (b .is) ∙ toBits-is (suc m) e)) (pattern-in (suc m * up e * 2 ^ 1074 / down e) (units-pos m e (f .0)) (units-lt (suc m) e (f .1)))
+
+pub between-root : (x : Float) (r : ℕ) → T (fits binary64 x) → Between x → ofBits binary64 r ≡ sqrtUnits (unitsBits (toBits binary64 x)) → ofBits binary64 r ≡ sqrtOf x
+between-root x r t b h =
+    let i = bits-in x t b in
+    h ∙ sym (sqrt-of-bits (toBits binary64 x) (i .0) (i .1)) ∙ ap sqrtOf (ofBits-toBits binary64 x t)
+
+pub no-nan-bits : (r : ℕ) → r < infinity → T (not (nanBits binary64 r))
+no-nan-bits r h =
+    subst (λ (b : Bool). T (not b)) (sym (nanBits-above binary64 r ∙ ap (λ (z : ℕ). ltb infinity z) (mod-eq-of-lt (small r h)) ∙ le-ltb infinity r (omega arith))) tt
+  where
+    small : (r : ℕ) → r < infinity → r < 2 ^ 63
+    small r h = omega arith
+
+-- a value above zero is no NaN
+above-nan : (x : Float) → lt (fin false 0 (pos 0)) x ≡ true → T (not (isNan x))
+unfolding lt isNan
+above-nan nan p = absurd (false≢true p)
+above-nan (inf s) p = tt
+above-nan (fin s m e) p = tt
+
+pub above-not-nan : (x : Float) → lt nought x ≡ true → T (not (isNan x))
+above-not-nan x p = above-nan x (subst (λ (z : Float). lt z x ≡ true) nought-is p)
