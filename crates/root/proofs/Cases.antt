@@ -19,21 +19,21 @@ use Rattle.root.proofs.Patterns.{infinity, sqrt-of-bits}
 
 -- ---- the code's constants
 
-abbrev pub nought : Float
-nought = ofBits binary64 0
+abbrev pub plus-zero : Float
+plus-zero = ofBits binary64 0
 
-abbrev pub endless : Float
-endless = div binary64 (ofBits binary64 0x3ff0_0000_0000_0000) (ofBits binary64 0)
+abbrev pub plus-infinity : Float
+plus-infinity = div binary64 (ofBits binary64 0x3ff0_0000_0000_0000) (ofBits binary64 0)
 
-nought-is : nought ≡ fin false 0 (pos 0)
+plus-zero-is : plus-zero ≡ fin false 0 (pos 0)
 unfolding ofBits
-nought-is = refl
+plus-zero-is = refl
 
-endless-is : endless ≡ inf false
+plus-infinity-is : plus-infinity ≡ inf false
 unfolding ofBits div
-endless-is = refl
+plus-infinity-is = refl
 
-pub nan-is : div binary64 nought nought ≡ nan
+pub nan-is : div binary64 plus-zero plus-zero ≡ nan
 unfolding ofBits div
 nan-is = refl
 
@@ -43,7 +43,7 @@ clash : (b : Bool) → b ≡ true → b ≡ false → ⊥
 clash b p q = true≢false (sym p ∙ q)
 
 -- above zero and below the infinity
-pub record Between (x : Float) : Type 0 where
+pub record PositiveFinite (x : Float) : Type 0 where
   pub m : ℕ
   pub e : ℤ
   pub is : x ≡ fin false (suc m) e
@@ -51,45 +51,45 @@ pub record Between (x : Float) : Type 0 where
 below-zero : (e : ℤ) → ltb (0 * down e) (0 * up e * 1) ≡ false
 below-zero e = ap (λ (z : ℕ). ltb (0 * down e) (z * 1)) (zero-mul (up e)) ∙ le-ltb (0 * down e) 0 (omega arith)
 
-between′ : (x : Float) → lt (fin false 0 (pos 0)) x ≡ true → lt x (inf false) ≡ true → Between x
+positive-finite′ : (x : Float) → lt (fin false 0 (pos 0)) x ≡ true → lt x (inf false) ≡ true → PositiveFinite x
 unfolding lt
-between′ nan p q = absurd (false≢true p)
-between′ (inf true) p q = absurd (false≢true p)
-between′ (inf false) p q = absurd (false≢true q)
-between′ (fin true m e) p q = absurd (false≢true p)
-between′ (fin false zero e) p q = absurd (clash (ltb (0 * down e) (0 * up e * 1)) p (below-zero e))
-between′ (fin false (suc m) e) p q = record { m = m; e = e; is = refl }
+positive-finite′ nan p q = absurd (false≢true p)
+positive-finite′ (inf true) p q = absurd (false≢true p)
+positive-finite′ (inf false) p q = absurd (false≢true q)
+positive-finite′ (fin true m e) p q = absurd (false≢true p)
+positive-finite′ (fin false zero e) p q = absurd (clash (ltb (0 * down e) (0 * up e * 1)) p (below-zero e))
+positive-finite′ (fin false (suc m) e) p q = record { m = m; e = e; is = refl }
 
-pub between : (x : Float) → lt nought x ≡ true → lt x endless ≡ true → Between x
-between x p q = between′ x (subst (λ (z : Float). lt z x ≡ true) nought-is p) (subst (λ (z : Float). lt x z ≡ true) endless-is q)
+pub positive-finite : (x : Float) → lt plus-zero x ≡ true → lt x plus-infinity ≡ true → PositiveFinite x
+positive-finite x p q = positive-finite′ x (subst (λ (z : Float). lt z x ≡ true) plus-zero-is p) (subst (λ (z : Float). lt x z ≡ true) plus-infinity-is q)
 
-top′ : (x : Float) → lt (fin false 0 (pos 0)) x ≡ true → lt x (inf false) ≡ false → x ≡ sqrtOf x
+at-infinity′ : (x : Float) → lt (fin false 0 (pos 0)) x ≡ true → lt x (inf false) ≡ false → x ≡ sqrtOf x
 unfolding lt sqrtOf
-top′ nan p q = absurd (false≢true p)
-top′ (inf true) p q = absurd (false≢true p)
-top′ (inf false) p q = refl
-top′ (fin true m e) p q = absurd (false≢true p)
-top′ (fin false m e) p q = absurd (true≢false q)
+at-infinity′ nan p q = absurd (false≢true p)
+at-infinity′ (inf true) p q = absurd (false≢true p)
+at-infinity′ (inf false) p q = refl
+at-infinity′ (fin true m e) p q = absurd (false≢true p)
+at-infinity′ (fin false m e) p q = absurd (true≢false q)
 
-pub at-top : (x : Float) → lt nought x ≡ true → lt x endless ≡ false → x ≡ sqrtOf x
-at-top x p q = top′ x (subst (λ (z : Float). lt z x ≡ true) nought-is p) (subst (λ (z : Float). lt x z ≡ false) endless-is q)
+pub at-infinity : (x : Float) → lt plus-zero x ≡ true → lt x plus-infinity ≡ false → x ≡ sqrtOf x
+at-infinity x p q = at-infinity′ x (subst (λ (z : Float). lt z x ≡ true) plus-zero-is p) (subst (λ (z : Float). lt x z ≡ false) plus-infinity-is q)
 
 and-true : (a b : Bool) → (a && b) ≡ true → a ≡ true
 and-true true b p = refl
 and-true false b p = absurd (false≢true p)
 
-zero′ : (x : Float) → eq x (fin false 0 (pos 0)) ≡ true → x ≡ sqrtOf x
+at-zero′ : (x : Float) → eq x (fin false 0 (pos 0)) ≡ true → x ≡ sqrtOf x
 unfolding eq sqrtOf
-zero′ nan p = absurd (false≢true p)
-zero′ (inf s) p = absurd (false≢true p)
-zero′ (fin s zero e) p = refl
-zero′ (fin s (suc m) e) p =
+at-zero′ nan p = absurd (false≢true p)
+at-zero′ (inf s) p = absurd (false≢true p)
+at-zero′ (fin s zero e) p = refl
+at-zero′ (fin s (suc m) e) p =
     let t : eqb (suc m * up e * 1) (0 * down e) ≡ true = and-true (eqb (suc m * up e * 1) (0 * down e)) (Bool·beq s false || eqb (suc m * up e * 1) 0) p in
     let q : suc m * up e * 1 ≡ 0 * down e = eqb→eq (suc m * up e * 1) (0 * down e) (subst T (sym t) tt) in
     absurd (lt-irrefl 0 (subst (λ (z : ℕ). 0 < z) (sym (mul-one (suc m * up e)) ∙ q ∙ zero-mul (down e)) (mul-pos (zero-lt-suc m) (up-pos e))))
 
-pub at-zero : (x : Float) → eq x nought ≡ true → x ≡ sqrtOf x
-at-zero x p = zero′ x (subst (λ (z : Float). eq x z ≡ true) nought-is p)
+pub at-zero : (x : Float) → eq x plus-zero ≡ true → x ≡ sqrtOf x
+at-zero x p = at-zero′ x (subst (λ (z : Float). eq x z ≡ true) plus-zero-is p)
 
 zeros-equal : (s : Bool) (e : ℤ) → (eqb (0 * up e * 1) (0 * down e) && (Bool·beq s false || eqb (0 * up e * 1) 0)) ≡ true
 zeros-equal s e = both (eqb (0 * up e * 1) (0 * down e)) (Bool·beq s false) (eqb (0 * up e * 1) 0) (eq-eqb (0 * up e * 1) (0 * down e) (z ∙ sym (zero-mul (down e)))) (eq-eqb (0 * up e * 1) 0 z)
@@ -102,23 +102,23 @@ zeros-equal s e = both (eqb (0 * up e * 1) (0 * down e)) (Bool·beq s false) (eq
     both true false c p q = q
     both false b c p q = absurd (false≢true p)
 
-none′ : (x : Float) → lt (fin false 0 (pos 0)) x ≡ false → eq x (fin false 0 (pos 0)) ≡ false → sqrtOf x ≡ nan
+at-nan′ : (x : Float) → lt (fin false 0 (pos 0)) x ≡ false → eq x (fin false 0 (pos 0)) ≡ false → sqrtOf x ≡ nan
 unfolding lt eq sqrtOf
-none′ nan p q = refl
-none′ (inf true) p q = refl
-none′ (inf false) p q = absurd (true≢false p)
-none′ (fin s zero e) p q = absurd (true≢false (sym (zeros-equal s e) ∙ q))
-none′ (fin true (suc m) e) p q = refl
-none′ (fin false (suc m) e) p q =
+at-nan′ nan p q = refl
+at-nan′ (inf true) p q = refl
+at-nan′ (inf false) p q = absurd (true≢false p)
+at-nan′ (fin s zero e) p q = absurd (true≢false (sym (zeros-equal s e) ∙ q))
+at-nan′ (fin true (suc m) e) p q = refl
+at-nan′ (fin false (suc m) e) p q =
     absurd (clash (ltb (0 * down e) (suc m * up e * 1))
     (lt-ltb (0 * down e) (suc m * up e * 1) (subst (λ (z : ℕ). z < suc m * up e * 1) (sym (zero-mul (down e))) (mul-pos (mul-pos (zero-lt-suc m) (up-pos e)) (zero-lt-suc 0)))) p)
 
-pub at-none : (x : Float) → lt nought x ≡ false → eq x nought ≡ false → div binary64 nought nought ≡ sqrtOf x
-at-none x p q = nan-is ∙ sym (none′ x (subst (λ (z : Float). lt z x ≡ false) nought-is p) (subst (λ (z : Float). eq x z ≡ false) nought-is q))
+pub at-nan : (x : Float) → lt plus-zero x ≡ false → eq x plus-zero ≡ false → div binary64 plus-zero plus-zero ≡ sqrtOf x
+at-nan x p q = nan-is ∙ sym (at-nan′ x (subst (λ (z : Float). lt z x ≡ false) plus-zero-is p) (subst (λ (z : Float). eq x z ≡ false) plus-zero-is q))
 
--- ---- the pattern of a value between
+-- ---- the pattern of a value positive-finite
 
-pub not-nan : (x : Float) → Between x → T (not (isNan x))
+pub not-nan : (x : Float) → PositiveFinite x → T (not (isNan x))
 unfolding isNan
 not-nan x b = subst (λ (z : Float). T (not (isNan z))) (sym (b .is)) tt
 
@@ -156,15 +156,15 @@ fits-down m e t =
     let d = ltb (suc m * up e) (2 ^ 1024 * down e) in
     (leb→le (down e) (2 ^ 1074) (and-r (a && b) c (and-l (a && b && c) d t)), ltb→lt (suc m * up e) (2 ^ 1024 * down e) (and-r (a && b && c) d t))
 
-pub bits-in : (x : Float) → T (fits binary64 x) → Between x → In (toBits binary64 x)
+pub bits-in : (x : Float) → T (fits binary64 x) → PositiveFinite x → In (toBits binary64 x)
 bits-in x t b =
     let m = b .m in
     let e = b .e in
     let f = fits-down m e (subst (λ (z : Float). T (fits binary64 z)) (b .is) t) in
     subst In (sym (ap (toBits binary64) (b .is) ∙ toBits-is (suc m) e)) (pattern-in (suc m * up e * 2 ^ 1074 / down e) (units-pos m e (f .0)) (units-lt (suc m) e (f .1)))
 
-pub between-root : (x : Float) (r : ℕ) → T (fits binary64 x) → Between x → ofBits binary64 r ≡ sqrtUnits (unitsBits (toBits binary64 x)) → ofBits binary64 r ≡ sqrtOf x
-between-root x r t b h =
+pub root-of-bits : (x : Float) (r : ℕ) → T (fits binary64 x) → PositiveFinite x → ofBits binary64 r ≡ sqrtUnits (unitsBits (toBits binary64 x)) → ofBits binary64 r ≡ sqrtOf x
+root-of-bits x r t b h =
     let i = bits-in x t b in
     h ∙ sym (sqrt-of-bits (toBits binary64 x) (i .0) (i .1)) ∙ ap sqrtOf (ofBits-toBits binary64 x t)
 
@@ -182,5 +182,5 @@ above-nan nan p = absurd (false≢true p)
 above-nan (inf s) p = tt
 above-nan (fin s m e) p = tt
 
-pub above-not-nan : (x : Float) → lt nought x ≡ true → T (not (isNan x))
-above-not-nan x p = above-nan x (subst (λ (z : Float). lt z x ≡ true) nought-is p)
+pub above-not-nan : (x : Float) → lt plus-zero x ≡ true → T (not (isNan x))
+above-not-nan x p = above-nan x (subst (λ (z : Float). lt z x ≡ true) plus-zero-is p)

@@ -1,7 +1,7 @@
 -- `sqrtOf x` is the value of the format nearest to √x (`sqrtOf-nearest`), for each positive finite x that the format holds, and it is the only one (`nearest-unique`). Assumes nothing.
 use mathlib.Core.Path.{_≡_, refl, sym, ap, _∙_, subst}
 use Prim.Native.Nat.{ℕ, zero, suc, _+_, _-_, _*_, _/_, _%_, _^_, _≤_, _<_}
-use native.Mathlib.Nat.{le-trans, le-of-eq, lt-of-lt-of-le, lt-of-le-of-lt, lt-of-not-le, not-le-of-lt, lt-irrefl, le-antisymm, mul-one, one-mul, mul-comm, mul-assoc, mul-left-comm, mul-right-comm, mul-add, add-mul, add-comm, mul-le-mul, mul-le-mul-left, mul-le-mul-right, mul-lt-mul-of-pos-right, mul-lt-mul-of-pos-left, lt-of-mul-lt-mul-right, eq-of-mul-eq-mul-right, mul-pos, mul-div-cancel, zero-lt-suc, zero-mul, pow-suc, le-of-lt}
+use native.Mathlib.Nat.{le-trans, le-of-eq, lt-of-lt-of-le, lt-of-le-of-lt, lt-of-not-le, not-le-of-lt, lt-irrefl, le-antisymm, mul-one, one-mul, mul-comm, mul-assoc, mul-left-comm, mul-right-comm, mul-add, add-mul, add-comm, add-zero, mul-le-mul, mul-le-mul-left, mul-le-mul-right, mul-lt-mul-of-pos-right, mul-lt-mul-of-pos-left, lt-of-mul-lt-mul-right, eq-of-mul-eq-mul-right, mul-pos, mul-div-cancel, zero-lt-suc, zero-mul, pow-suc, le-of-lt}
 use native.Mathlib.Decide.{decLe}
 use native.Mathlib.Omega.{arith}
 use mathlib.Core.Bool.{Bool, true, false, _&&_, true≢false}
@@ -16,13 +16,13 @@ use lib.Ieee.Bits.{ofBits-toBits, ofBits-fits}
 use Rattle.root.specs.Root.{root, IsRoot, Near}
 use Rattle.root.specs.Sqrt.{sqrtUnits, sqrtOf}
 use Rattle.root.specs.Parts.{PartsOf, unitsBits}
-use Rattle.root.specs.Nearest.{Units, NearestRoot}
+use Rattle.root.specs.Nearest.{Units, NearestRoot, SquareRoot}
 use Rattle.root.proofs.WholeRoot.{root-is, sq-mono}
 use Rattle.root.proofs.Decompose.{parts-of}
 use Rattle.root.proofs.Scaling.{sqrtUnits-at, scaled-in, scaled-same, nearest-is}
 use Rattle.root.proofs.Assemble.{bits-of}
 use Rattle.root.proofs.Patterns.{sqrt-of-bits, bits-units}
-use Rattle.root.proofs.Cases.{Between, bits-in, toBits-is}
+use Rattle.root.proofs.Cases.{PositiveFinite, bits-in, toBits-is}
 
 -- ---- a value of the format is c * 2 ^ j units, for a c of 53 digits at most
 
@@ -59,7 +59,7 @@ fits-parts s m e t =
     let d = ltb (suc m * up e) (2 ^ 1024 * down e) in
     (ltb→lt (suc m) (2 ^ 53) (and-r a b (and-l (a && b) c (and-l (a && b && c) d t))), leb→le (down e) (2 ^ 1074) (and-r (a && b) c (and-l (a && b && c) d t)))
 
-few : (y : Float) (a : ℕ) → T (fits binary64 y) → Units y a → Few a
+few : (y : Float) (a : ℕ) → T (fits binary64 y) → Units y false a → Few a
 few nan a t h = absurd h
 few (inf s) a t h = absurd h
 few (fin s zero e) a t h = (0, 0, omega arith, eq-of-mul-eq-mul-right (down e) (down-pos e) a 0 (sym (h .1) ∙ ap (λ (x : ℕ). x * 2 ^ 1074) (zero-mul (up e)) ∙ zero-mul (2 ^ 1074) ∙ sym (zero-mul (down e))))
@@ -184,7 +184,7 @@ closest n B q k e near big Q a f =
         (under B (q - 1) (2 ^ k) a (pow-pos k) (subst (λ (x : ℕ). Near B x) (sym s) near)
         (le-trans (le-of-eq (f .3)) (next-below (f .0) (f .1) k (q - 1) (f .2) (omega arith) (subst (λ (x : ℕ). f .0 * 2 ^ f .1 < x * 2 ^ k) (sym s) (subst (λ (x : ℕ). x < q * 2 ^ k) (f .3) l)))))
 
-pub sqrtOf-nearest : (x : Float) → T (fits binary64 x) → Between x → NearestRoot x (sqrtOf x)
+pub sqrtOf-nearest : (x : Float) → T (fits binary64 x) → PositiveFinite x → NearestRoot x (sqrtOf x)
 sqrtOf-nearest x t w =
     let b = toBits binary64 x in
     let same : ofBits binary64 b ≡ x = ofBits-toBits binary64 x t in
@@ -207,13 +207,20 @@ sqrtOf-nearest x t w =
     record {
       n = n;
       v = q * 2 ^ (h + 1);
-      x-is = subst (λ (z : Float). Units z n) same (bits-units b (i .1));
-      r-is = subst (λ (z : Float). Units z (q * 2 ^ (h + 1))) (sym (root-is ∙ is)) (odd-sign 53 false q (h + 1) 1074);
+      x-is = subst (λ (z : Float). Units z false n) same (bits-units b (i .1));
+      r-is = subst (λ (z : Float). Units z false (q * 2 ^ (h + 1))) (sym (root-is ∙ is)) (odd-sign 53 false q (h + 1) 1074);
       held = subst (λ (z : Float). T (fits binary64 z)) (bits-of b m g q p (near .0) (near .1) (near .2) .0 ∙ sym root-is) (ofBits-fits binary64 ((g / 2 - 26) * 2 ^ 52 + q));
       above = λ y c f u. close c (few y c f u) .0;
       below = λ y c f u. close c (few y c f u) .1;
+      negative = λ y c f u. lt-of-le-of-lt (sq-mono (less (q * 2 ^ (h + 1)) c)) (subst (λ (z : ℕ). z * z < 4 * (n * 2 ^ 1074)) (add-zero (q * 2 ^ (h + 1))) (close 0 no-units .1 (mul-pos (above-zero q (near .1)) (pow-pos (h + 1)))));
     }
   where
+    less : (x y : ℕ) → x - y ≤ x
+    less x y = omega arith
+
+    no-units : Few 0
+    no-units = (0, 0, omega arith, refl)
+
     below-top : (a : ℕ) → a < 2 ^ 54 - 1 → a < 2 ^ 54
     below-top a h = omega arith
 
@@ -233,23 +240,23 @@ sqrtOf-nearest x t w =
 -- ---- there is one such value
 
 -- two values of the format with the same number of units are the same value, since they have the same pattern
-toBits-units : (r : Float) (v : ℕ) → Units r v → toBits binary64 r ≡ 0 + (size v - 53) * 2 ^ 52 + v / 2 ^ (size v - 53)
+toBits-units : (r : Float) (v : ℕ) → Units r false v → toBits binary64 r ≡ 0 + (size v - 53) * 2 ^ 52 + v / 2 ^ (size v - 53)
 toBits-units nan v h = absurd h
 toBits-units (inf s) v h = absurd h
 toBits-units (fin true m e) v h = absurd (true≢false (h .0))
 toBits-units (fin false m e) v h =
     toBits-is m e ∙ ap (λ (x : ℕ). 0 + (size x - 53) * 2 ^ 52 + x / 2 ^ (size x - 53)) (ap (λ (x : ℕ). x / down e) (h .1) ∙ mul-div-cancel v (down-pos e))
 
-same-value : (r s : Float) (v : ℕ) → T (fits binary64 r) → T (fits binary64 s) → Units r v → Units s v → r ≡ s
+same-value : (r s : Float) (v : ℕ) → T (fits binary64 r) → T (fits binary64 s) → Units r false v → Units s false v → r ≡ s
 same-value r s v f g h k = sym (ofBits-toBits binary64 r f) ∙ ap (ofBits binary64) (toBits-units r v h ∙ sym (toBits-units s v k)) ∙ ofBits-toBits binary64 s g
 
-same-units : (x : Float) (n k : ℕ) → Units x n → Units x k → n ≡ k
+same-units : (x : Float) (n k : ℕ) → Units x false n → Units x false k → n ≡ k
 same-units nan n k h g = absurd h
 same-units (inf s) n k h g = absurd h
 same-units (fin s m e) n k h g = eq-of-mul-eq-mul-right (down e) (down-pos e) n k (sym (h .1) ∙ g .1)
 
 pub nearest-unique : (x r s : Float) → NearestRoot x r → NearestRoot x s → r ≡ s
-nearest-unique x r s p q = same-value r s (p .v) (p .held) (q .held) (p .r-is) (subst (λ (z : ℕ). Units s z) (sym level) (q .r-is))
+nearest-unique x r s p q = same-value r s (p .v) (p .held) (q .held) (p .r-is) (subst (λ (z : ℕ). Units s false z) (sym level) (q .r-is))
   where
     N : p .n ≡ q .n
     N = same-units x (p .n) (q .n) (p .x-is) (q .x-is)
@@ -270,58 +277,29 @@ nearest-unique x r s p q = same-value r s (p .v) (p .held) (q .held) (p .r-is) (
             le-of-lt-suc : {x y : ℕ} → x < suc y → x ≤ y
             le-of-lt-suc h = omega arith
 
--- a value that is nearest to √x is `sqrtOf x`
-pub is-sqrtOf : (x r : Float) → T (fits binary64 x) → Between x → NearestRoot x r → r ≡ sqrtOf x
-is-sqrtOf x r t w p = nearest-unique x r (sqrtOf x) p (sqrtOf-nearest x t w)
+-- ---- the claims
 
--- ---- what follows for callers
-
--- where √x is a value of the format, it is the root
-pub exact-root : (x r : Float) (n v : ℕ) → T (fits binary64 x) → Between x → T (fits binary64 r) → Units x n → Units r v → v * v ≡ n * 2 ^ 1074 → r ≡ sqrtOf x
-exact-root x r n v t w g h k e =
-    is-sqrtOf x r t w
-    (record {
-      n = n;
-      v = v;
-      x-is = h;
-      r-is = k;
-      held = g;
-      above = λ y a f u l. lt-of-le-of-lt (le-of-eq (ap (λ (z : ℕ). 4 * z) (sym e) ∙ sym (twice v))) (sq-lt (more v a l));
-      below = λ y a f u l. lt-of-lt-of-le (sq-lt (less v a l)) (le-of-eq (twice v ∙ ap (λ (z : ℕ). 4 * z) e));
-    })
-  where
-    twice : (v : ℕ) → 2 * v * (2 * v) ≡ 4 * (v * v)
-    twice v = simp (mul-assoc, mul-comm, mul-left-comm) (omega arith)
-
-    more : (v a : ℕ) → v < a → 2 * v < v + a
-    more v a l = omega arith
-
-    less : (v a : ℕ) → a < v → v + a < 2 * v
-    less v a l = omega arith
-
-    sq-lt : {x y : ℕ} → x < y → x * x < y * y
-    sq-lt {x} {y} l = lt-of-le-of-lt (mul-le-mul-left x (le-of-lt l)) (mul-lt-mul-of-pos-right l (pos-of x y l))
-      where
-        pos-of : (x y : ℕ) → x < y → 0 < y
-        pos-of x y l = omega arith
-
--- a larger number has no smaller root
-pub nearest-mono : (x r y s : Float) (p : NearestRoot x r) (q : NearestRoot y s) → p .n ≤ q .n → p .v ≤ q .v
-nearest-mono x r y s p q h = le-of-lt-suc (lt-of-not-le (λ (l : q .v < p .v). no (p .n) (q .n) (p .v) (q .v) h (q .above r (p .v) (p .held) (p .r-is) l) (p .below s (q .v) (q .held) (q .r-is) l)))
-  where
-    le-of-lt-suc : {x y : ℕ} → x < suc y → x ≤ y
-    le-of-lt-suc h = omega arith
-
-    no : (n k a b : ℕ) → n ≤ k → 4 * (k * 2 ^ 1074) < (b + a) * (b + a) → (a + b) * (a + b) < 4 * (n * 2 ^ 1074) → ⊥
-    no n k a b h f g =
-        not-le-of-lt (lt-of-lt-of-le f (le-of-eq (ap (λ (z : ℕ). z * z) (add-comm b a)))) (le-trans (le-of-lt g) (mul-le-mul-left 4 (mul-le-mul-right (2 ^ 1074) h)))
-
--- whatever the x, the format holds its root
-pub sqrtOf-fits : (x : Float) → T (fits binary64 x) → T (fits binary64 (sqrtOf x))
+-- `sqrtOf` is the square root
+pub sqrtOf-is-square-root : SquareRoot sqrtOf
 unfolding sqrtOf
-sqrtOf-fits nan t = t
-sqrtOf-fits (inf true) t = nan-fits binary64
-sqrtOf-fits (inf false) t = t
-sqrtOf-fits (fin s zero e) t = t
-sqrtOf-fits (fin true (suc m) e) t = nan-fits binary64
-sqrtOf-fits (fin false (suc m) e) t = sqrtOf-nearest (fin false (suc m) e) t (record { m = m; e = e; is = refl }) .held
+sqrtOf-is-square-root =
+    record {
+      nearest = λ m e t. sqrtOf-nearest (fin false (suc m) e) t (record { m = m; e = e; is = refl });
+      zeros = λ s e. refl;
+      infinity = refl;
+      below-zero = λ m e. refl;
+      below-infinity = refl;
+      not-a-number = refl;
+    }
+
+-- and there is no other: whatever is one agrees with it at every f64
+pub square-root-unique : (f : Float → Float) → SquareRoot f → (x : Float) → T (fits binary64 x) → f x ≡ sqrtOf x
+unfolding sqrtOf
+square-root-unique f h nan t = h .not-a-number
+square-root-unique f h (inf true) t = h .below-infinity
+square-root-unique f h (inf false) t = h .infinity
+square-root-unique f h (fin s zero e) t = h .zeros s e
+square-root-unique f h (fin true (suc m) e) t = h .below-zero m e
+square-root-unique f h (fin false (suc m) e) t =
+    let x = fin false (suc m) e in
+    nearest-unique x (f x) (sqrtOf x) (h .nearest m e t) (sqrtOf-is-square-root .nearest m e t)

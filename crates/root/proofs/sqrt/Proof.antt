@@ -3,7 +3,7 @@ use borrow.Author.Needs.{needs}
 use mathlib.Core.Path.{subst, sym}
 use lib.Dec.{T}
 use lib.Ieee.{binary64, fits}
-use Rattle.root.proofs.Cases.{Between, between, not-nan, bits-in, between-root, no-nan-bits, at-top, at-zero, at-none}
+use Rattle.root.proofs.Cases.{PositiveFinite, positive-finite, not-nan, bits-in, root-of-bits, no-nan-bits, at-infinity, at-zero, at-nan}
 use Rattle.root.proofs.sqrt.Statement.{statement}
 use Rattle.root.proofs.sqrt.Tie as tie
 
@@ -11,8 +11,8 @@ use Rattle.root.proofs.sqrt.Tie as tie
 held : (c : tie.Start) → T (fits binary64 (c .args .x))
 held c = subst T (sym (c .good .0 .1)) tt
 
-middle : (c : tie.Then2) → Between (c .before .before .args .x)
-middle c = between (c .before .before .args .x) (c .before .if1 .taken) (c .if2 .taken)
+middle : (c : tie.Then2) → PositiveFinite (c .before .before .args .x)
+middle c = positive-finite (c .before .before .args .x) (c .before .if1 .taken) (c .if2 .taken)
 
 float-to-bits-b : tie.Need-float-to-bits-b
 float-to-bits-b c = not-nan (c .before .before .args .x) (middle c)
@@ -36,16 +36,16 @@ returns : tie.Need-returns
 returns c =
     let t = c .before .before .before in
     let s = t .before .before in
-    between-root (s .args .x) (c .root-bits .result) (held s) (middle t) (c .root-bits .ensures .0)
+    root-of-bits (s .args .x) (c .root-bits .result) (held s) (middle t) (c .root-bits .ensures .0)
 
 returns-2 : tie.Need-returns-2
-returns-2 c = at-top (c .before .before .args .x) (c .before .if1 .taken) (c .if2 .left)
+returns-2 c = at-infinity (c .before .before .args .x) (c .before .if1 .taken) (c .if2 .left)
 
 returns-3 : tie.Need-returns-3
 returns-3 c = at-zero (c .before .before .args .x) (c .if3 .taken)
 
 returns-4 : tie.Need-returns-4
-returns-4 c = at-none (c .before .before .args .x) (c .before .if1 .left) (c .if3 .left)
+returns-4 c = at-nan (c .before .before .args .x) (c .before .if1 .left) (c .if3 .left)
 
 pub sqrt-spec : {M : Type 1} → statement M
 sqrt-spec =

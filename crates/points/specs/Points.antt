@@ -1,0 +1,47 @@
+-- The worked examples that are proved: one table, and one claim about all of it. Definitions only.
+use mathlib.Core.Path.{_≡_}
+use mathlib.Core.List.{List, [], _∷_, map}
+use mathlib.Core.Bool.{false}
+use Prim.Native.Nat.{ℕ, zero, suc}
+use lib.IntN.{ℤ, pos, negsuc}
+use lib.Ieee.{Float, fin, binary64, ofInt, toBits}
+use Rattle.root.specs.Sqrt.{sqrtOf}
+use Rattle.rng.specs.declared.Rng.{Rng}
+use Rattle.rng.specs.Xoshiro.{drawOf}
+use Rattle.rng.specs.Uniform.{uniformOf}
+
+-- what the definitions give, and what it has to be: whole numbers, and an f64 by its bits
+pub record Point : Type 0 where
+  pub given : List ℕ
+  pub wanted : List ℕ
+
+abbrev bits : Float → List ℕ
+bits x = toBits binary64 x ∷ []
+
+-- the f64 that is a whole number, and 2 ^ e
+abbrev whole : ℕ → Float
+whole n = ofInt binary64 (pos n)
+
+abbrev twoTo : ℤ → Float
+twoTo e = fin false 1 e
+
+-- the first n draws
+abbrev draws : ℕ → Rng → List ℕ
+draws zero g = []
+draws (suc n) g = drawOf g .value ∷ draws n (drawOf g .rng)
+
+abbrev pub points : List Point
+points =
+    -- the state 1, 2, 3, 4 draws 41943041, and then 58720359
+    record { given = draws 2 (record { s = 1 ∷ 2 ∷ 3 ∷ 4 ∷ [] }); wanted = 41943041 ∷ 58720359 ∷ [] }
+    -- the raw draw 2047 gives the uniform number 0, and 2048 gives 2 ^ -53
+    ∷ record { given = bits (uniformOf 2047); wanted = bits (whole 0) }
+    ∷ record { given = bits (uniformOf 2048); wanted = bits (twoTo (negsuc 52)) }
+    -- the root of 4 is 2, that of 2 has these bits, and that of 2 ^ -1074 is 2 ^ -537
+    ∷ record { given = bits (sqrtOf (whole 4)); wanted = bits (whole 2) }
+    ∷ record { given = bits (sqrtOf (whole 2)); wanted = 0x3ff6_a09e_667f_3bcd ∷ [] }
+    ∷ record { given = bits (sqrtOf (twoTo (negsuc 1073))); wanted = bits (twoTo (negsuc 536)) }
+    ∷ []
+
+abbrev pub PointsHold : Type 0
+PointsHold = map (λ p. p .given) points ≡ map (λ p. p .wanted) points
