@@ -1,6 +1,6 @@
 -- Every point of the table holds: antt computes both sides. Assumes nothing.
 use mathlib.Core.Path.{refl}
-use lib.Ieee.{toBits, ofInt, round}
+use lib.Ieee.{toBits, ofInt}
 use Rattle.root.specs.Sqrt.{sqrtOf}
 use Rattle.rng.specs.Xoshiro.{drawOf, resultOf, nextOf}
 use Rattle.rng.specs.Uniform.{uniformOf}

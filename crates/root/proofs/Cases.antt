@@ -1,18 +1,17 @@
 -- The cases of `sqrt`, by its tests. Assumes nothing.
 use mathlib.Core.Path.{_≡_, refl, sym, ap, _∙_, subst}
 use Prim.Native.Nat.{ℕ, zero, suc, _+_, _-_, _*_, _/_, _%_, _^_, _≤_, _<_}
-use native.Mathlib.Nat.{le-trans, le-of-eq, lt-of-lt-of-le, lt-of-le-of-lt, lt-irrefl, zero-lt-suc, zero-mul, mul-pos, mul-one, mul-comm, mul-assoc, mul-right-comm, mul-le-mul, mul-le-mul-left, mul-le-mul-right, mul-lt-mul-of-pos-right, le-div-iff-mul-le, div-lt-iff-lt-mul, one-mul, mod-eq-of-lt, div-one}
+use native.Mathlib.Nat.{le-trans, le-of-eq, lt-of-lt-of-le, lt-irrefl, zero-lt-suc, zero-mul, mul-pos, mul-one, mul-right-comm, mul-le-mul-right, mul-lt-mul-of-pos-right, le-div-iff-mul-le, div-lt-iff-lt-mul, one-mul, mod-eq-of-lt, div-one}
 use native.Mathlib.Omega.{arith}
-use mathlib.Core.Logic.{_⊎_, inl, inr}
-use mathlib.Core.Bool.{Bool, true, false, not, _&&_, _||_, Bool·beq, cond, true≢false, false≢true}
-use lib.IntN.{ℤ, pos, negsuc}
-use lib.Dec.{T, leb, ltb, eqb, ltb→lt, leb→le, eqb→eq, not-T, eqb-refl, lt→ltb}
-use lib.Pow.{pow-pos, pow-mono, pow-add}
+use mathlib.Core.Bool.{Bool, true, false, not, _&&_, _||_, Bool·beq, true≢false, false≢true}
+use lib.IntN.{ℤ, pos}
+use lib.Dec.{T, leb, ltb, eqb, ltb→lt, leb→le, eqb→eq}
+use lib.Pow.{pow-pos, pow-add}
 use borrow.Author.Tests.{lt-ltb, le-ltb, eq-eqb}
 use lib.Ieee.{Float, nan, inf, fin, binary64, up, down, size, lt, eq, div, fits, isNan, toBits, ofBits, nanBits}
 use lib.Ieee.Digits.{size-le}
 use lib.Ieee.Fits.{kept-lt, down-pos, up-pos, and-l, and-r}
-use lib.Ieee.Bits.{is-true, is-false, ofBits-toBits, nanBits-above}
+use lib.Ieee.Bits.{ofBits-toBits, nanBits-above}
 use Rattle.root.specs.Sqrt.{sqrtUnits, sqrtOf}
 use Rattle.root.specs.Parts.{unitsBits}
 use Rattle.root.proofs.Patterns.{infinity, sqrt-of-bits}
@@ -116,7 +115,7 @@ at-nan′ (fin false (suc m) e) p q =
 pub at-nan : (x : Float) → lt plus-zero x ≡ false → eq x plus-zero ≡ false → div binary64 plus-zero plus-zero ≡ sqrtOf x
 at-nan x p q = nan-is ∙ sym (at-nan′ x (subst (λ (z : Float). lt z x ≡ false) plus-zero-is p) (subst (λ (z : Float). eq x z ≡ false) plus-zero-is q))
 
--- ---- the pattern of a value positive-finite
+-- ---- the pattern of a positive finite value
 
 pub not-nan : (x : Float) → PositiveFinite x → T (not (isNan x))
 unfolding isNan
@@ -147,21 +146,31 @@ units-lt m e h =
     div-lt-iff-lt-mul (down-pos e) .1
     (lt-of-lt-of-le (mul-lt-mul-of-pos-right h (pow-pos 1074)) (le-of-eq (mul-right-comm (2 ^ 1024) (down e) (2 ^ 1074) ∙ ap (λ (z : ℕ). z * down e) (sym (pow-add 2 1024 1074)))))
 
-fits-down : (m : ℕ) (e : ℤ) → T (fits binary64 (fin false (suc m) e)) → (down e ≤ 2 ^ 1074) × (suc m * up e < 2 ^ 1024 * down e)
+-- a value that the format holds has 53 digits at most, is a whole number of units, and lies below 2 ^ 1024
+pub record FitsParts (m : ℕ) (e : ℤ) : Type 0 where
+  pub short : m < 2 ^ 53
+  pub coarse : down e ≤ 2 ^ 1074
+  pub small : m * up e < 2 ^ 1024 * down e
+
+pub fits-parts : (s : Bool) (m : ℕ) (e : ℤ) → T (fits binary64 (fin s (suc m) e)) → FitsParts (suc m) e
 unfolding fits
-fits-down m e t =
+fits-parts s m e t =
     let a = eqb (suc m % 2) 1 in
     let b = ltb (suc m) (2 ^ 53) in
     let c = leb (down e) (2 ^ 1074) in
     let d = ltb (suc m * up e) (2 ^ 1024 * down e) in
-    (leb→le (down e) (2 ^ 1074) (and-r (a && b) c (and-l (a && b && c) d t)), ltb→lt (suc m * up e) (2 ^ 1024 * down e) (and-r (a && b && c) d t))
+    record {
+      short = ltb→lt (suc m) (2 ^ 53) (and-r a b (and-l (a && b) c (and-l (a && b && c) d t)));
+      coarse = leb→le (down e) (2 ^ 1074) (and-r (a && b) c (and-l (a && b && c) d t));
+      small = ltb→lt (suc m * up e) (2 ^ 1024 * down e) (and-r (a && b && c) d t);
+    }
 
 pub bits-in : (x : Float) → T (fits binary64 x) → PositiveFinite x → In (toBits binary64 x)
 bits-in x t b =
     let m = b .m in
     let e = b .e in
-    let f = fits-down m e (subst (λ (z : Float). T (fits binary64 z)) (b .is) t) in
-    subst In (sym (ap (toBits binary64) (b .is) ∙ toBits-is (suc m) e)) (pattern-in (suc m * up e * 2 ^ 1074 / down e) (units-pos m e (f .0)) (units-lt (suc m) e (f .1)))
+    let f = fits-parts false m e (subst (λ (z : Float). T (fits binary64 z)) (b .is) t) in
+    subst In (sym (ap (toBits binary64) (b .is) ∙ toBits-is (suc m) e)) (pattern-in (suc m * up e * 2 ^ 1074 / down e) (units-pos m e (f .coarse)) (units-lt (suc m) e (f .small)))
 
 pub root-of-bits : (x : Float) (r : ℕ) → T (fits binary64 x) → PositiveFinite x → ofBits binary64 r ≡ sqrtUnits (unitsBits (toBits binary64 x)) → ofBits binary64 r ≡ sqrtOf x
 root-of-bits x r t b h =

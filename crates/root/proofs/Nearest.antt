@@ -1,28 +1,29 @@
 -- `sqrtOf x` is the value of the format nearest to √x (`sqrtOf-nearest`), for each positive finite x that the format holds, and it is the only one (`nearest-unique`). Assumes nothing.
 use mathlib.Core.Path.{_≡_, refl, sym, ap, _∙_, subst}
 use Prim.Native.Nat.{ℕ, zero, suc, _+_, _-_, _*_, _/_, _%_, _^_, _≤_, _<_}
-use native.Mathlib.Nat.{le-trans, le-of-eq, lt-of-lt-of-le, lt-of-le-of-lt, lt-of-not-le, not-le-of-lt, lt-irrefl, le-antisymm, mul-one, one-mul, mul-comm, mul-assoc, mul-left-comm, mul-right-comm, mul-add, add-mul, add-comm, add-zero, mul-le-mul, mul-le-mul-left, mul-le-mul-right, mul-lt-mul-of-pos-right, mul-lt-mul-of-pos-left, lt-of-mul-lt-mul-right, eq-of-mul-eq-mul-right, mul-pos, mul-div-cancel, zero-lt-suc, zero-mul, pow-suc, le-of-lt}
+use native.Mathlib.Nat.{le-trans, le-of-eq, lt-of-lt-of-le, lt-of-le-of-lt, lt-of-not-le, not-le-of-lt, lt-irrefl, le-antisymm, mul-one, mul-comm, mul-assoc, mul-left-comm, mul-add, add-mul, add-comm, add-zero, mul-le-mul-right, mul-lt-mul-of-pos-right, lt-of-mul-lt-mul-right, eq-of-mul-eq-mul-right, mul-pos, mul-div-cancel, zero-mul, le-of-lt}
 use native.Mathlib.Decide.{decLe}
 use native.Mathlib.Omega.{arith}
-use mathlib.Core.Bool.{Bool, true, false, _&&_, true≢false}
+use mathlib.Core.Bool.{true, false, true≢false}
 use lib.IntN.{ℤ, pos, negsuc}
-use lib.Dec.{T, leb, ltb, eqb, leb→le, ltb→lt}
+use lib.Dec.{T}
 use lib.Pow.{pow-pos, pow-mono, pow-add}
 use lib.Ieee.{Float, nan, inf, fin, binary64, up, down, size, odd, fits, toBits, ofBits}
 use lib.Ieee.Digits.{back}
-use lib.Ieee.Fits.{and-l, and-r, down-pos, nan-fits}
-use lib.Ieee.Exact.{HasValue, odd-sign}
+use lib.Ieee.Fits.{down-pos}
+use lib.Ieee.Exact.{odd-sign}
 use lib.Ieee.Bits.{ofBits-toBits, ofBits-fits}
-use Rattle.root.specs.Root.{root, IsRoot, Near}
+use Rattle.root.specs.Root.{root, Near}
 use Rattle.root.specs.Sqrt.{sqrtUnits, sqrtOf}
-use Rattle.root.specs.Parts.{PartsOf, unitsBits}
+use Rattle.root.specs.Parts.{unitsBits}
 use Rattle.root.specs.Nearest.{Units, NearestRoot, SquareRoot}
-use Rattle.root.proofs.WholeRoot.{root-is, sq-mono}
+use Rattle.root.proofs.WholeRoot.{root-is}
+use Rattle.root.proofs.Arith.{le-of-not-lt, squares, sq-mono, sq-lt, pow-le-back}
 use Rattle.root.proofs.Decompose.{parts-of}
 use Rattle.root.proofs.Scaling.{sqrtUnits-at, scaled-in, scaled-same, nearest-is}
 use Rattle.root.proofs.Assemble.{bits-of}
 use Rattle.root.proofs.Patterns.{sqrt-of-bits, bits-units}
-use Rattle.root.proofs.Cases.{PositiveFinite, bits-in, toBits-is}
+use Rattle.root.proofs.Cases.{PositiveFinite, fits-parts, bits-in, toBits-is}
 
 -- ---- a value of the format is c * 2 ^ j units, for a c of 53 digits at most
 
@@ -40,24 +41,6 @@ place m a (negsuc k) h p =
           ∙ ap (λ (x : ℕ). m * x) (ap (λ (x : ℕ). 2 ^ x) (sym (back 1074 (suc k) l)) ∙ pow-add 2 (1074 - suc k) (suc k))
           ∙ sym (mul-assoc m (2 ^ (1074 - suc k)) (2 ^ suc k))),
     )
-  where
-    pow-le-back : (a l : ℕ) → 2 ^ a ≤ 2 ^ l → a ≤ l
-    pow-le-back a l h = le-of-lt-suc (lt-of-not-le (λ (g : suc l ≤ a). lt-irrefl (2 ^ l) (lt-of-lt-of-le (grow l) (le-trans (pow-mono g) h))))
-      where
-        le-of-lt-suc : {x y : ℕ} → x < suc y → x ≤ y
-        le-of-lt-suc h = omega arith
-
-        grow : (l : ℕ) → 2 ^ l < 2 ^ suc l
-        grow l = let p = pow-pos l in let e : 2 ^ suc l ≡ 2 ^ l * 2 = pow-suc 2 l in omega arith
-
-fits-parts : (s : Bool) (m : ℕ) (e : ℤ) → T (fits binary64 (fin s (suc m) e)) → (suc m < 2 ^ 53) × (down e ≤ 2 ^ 1074)
-unfolding fits
-fits-parts s m e t =
-    let a = eqb (suc m % 2) 1 in
-    let b = ltb (suc m) (2 ^ 53) in
-    let c = leb (down e) (2 ^ 1074) in
-    let d = ltb (suc m * up e) (2 ^ 1024 * down e) in
-    (ltb→lt (suc m) (2 ^ 53) (and-r a b (and-l (a && b) c (and-l (a && b && c) d t))), leb→le (down e) (2 ^ 1074) (and-r (a && b) c (and-l (a && b && c) d t)))
 
 few : (y : Float) (a : ℕ) → T (fits binary64 y) → Units y false a → Few a
 few nan a t h = absurd h
@@ -65,8 +48,8 @@ few (inf s) a t h = absurd h
 few (fin s zero e) a t h = (0, 0, omega arith, eq-of-mul-eq-mul-right (down e) (down-pos e) a 0 (sym (h .1) ∙ ap (λ (x : ℕ). x * 2 ^ 1074) (zero-mul (up e)) ∙ zero-mul (2 ^ 1074) ∙ sym (zero-mul (down e))))
 few (fin s (suc m) e) a t h =
     let f = fits-parts s m e t in
-    let p = place (suc m) a e (f .1) (h .1) in
-    (suc m, p .0, f .0, p .1)
+    let p = place (suc m) a e (f .coarse) (h .1) in
+    (suc m, p .0, f .short, p .1)
 
 -- ---- the values of the format next to q * 2 ^ k units, for a q of 53 digits
 
@@ -106,9 +89,6 @@ next-below c j k p C P h = go (decLe k j)
     go (no f) = le-of-lt (finer c j k p C P (lt-of-not-le f))
 
 -- ---- the squares
-
-squares : (a b : ℕ) → a * b * (a * b) ≡ a * a * (b * b)
-squares a b = simp (mul-assoc, mul-comm, mul-left-comm) refl
 
 -- with P for 2 ^ k
 over : (B q P a : ℕ) → 0 < P → Near B q → (q + 1) * P ≤ a → 4 * (B * (P * P)) < (q * P + a) * (q * P + a)
@@ -151,12 +131,6 @@ under-power : (B q P a : ℕ) → 0 < P → q * q ≤ B → a < q * P → (q * P
 under-power B q P a Z n h =
     lt-of-lt-of-le (sq-lt (more (q * P) (2 * q * P) a (mul-assoc 2 q P) h)) (le-trans (le-of-eq (squares (2 * q) P)) (le-trans (mul-le-mul-right (P * P) (four q n)) (le-of-eq (mul-assoc 4 B (P * P)))))
   where
-    sq-lt : {x y : ℕ} → x < y → x * x < y * y
-    sq-lt {x} {y} l = lt-of-le-of-lt (mul-le-mul-left x (le-of-lt l)) (mul-lt-mul-of-pos-right l (pos-of x y l))
-      where
-        pos-of : (x y : ℕ) → x < y → 0 < y
-        pos-of x y l = omega arith
-
     more : (v w a : ℕ) → w ≡ 2 * v → a < v → v + a < w
     more v w a e l = omega arith
 
@@ -268,14 +242,8 @@ nearest-unique x r s p q = same-value r s (p .v) (p .held) (q .held) (p .r-is) (
         lt-trans′ g h = omega arith
 
     level : p .v ≡ q .v
-    level = le-antisymm (half (λ (l : q .v < p .v). no (q .v) (p .v) (q .n) (p .n) (sym N) (q .above r (p .v) (p .held) (p .r-is) l) (p .below s (q .v) (q .held) (q .r-is) l)))
-        (half (λ (l : p .v < q .v). no (p .v) (q .v) (p .n) (q .n) N (p .above s (q .v) (q .held) (q .r-is) l) (q .below r (p .v) (p .held) (p .r-is) l)))
-      where
-        half : {a b : ℕ} → (b < a → ⊥) → a ≤ b
-        half {a} {b} f = le-of-lt-suc (lt-of-not-le f)
-          where
-            le-of-lt-suc : {x y : ℕ} → x < suc y → x ≤ y
-            le-of-lt-suc h = omega arith
+    level = le-antisymm (le-of-not-lt (λ (l : q .v < p .v). no (q .v) (p .v) (q .n) (p .n) (sym N) (q .above r (p .v) (p .held) (p .r-is) l) (p .below s (q .v) (q .held) (q .r-is) l)))
+        (le-of-not-lt (λ (l : p .v < q .v). no (p .v) (q .v) (p .n) (q .n) N (p .above s (q .v) (q .held) (q .r-is) l) (q .below r (p .v) (p .held) (p .r-is) l)))
 
 -- ---- the claims
 

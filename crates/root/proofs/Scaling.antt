@@ -3,19 +3,17 @@
 use mathlib.Core.Path.{_≡_, refl, sym, ap, _∙_, subst}
 use mathlib.Core.Bool.{false}
 use Prim.Native.Nat.{ℕ, zero, suc, _+_, _-_, _*_, _/_, _%_, _^_, _≤_, _<_}
-use native.Mathlib.Nat.{le-trans, le-of-eq, lt-of-lt-of-le, lt-of-le-of-lt, lt-of-not-le, not-le-of-lt, le-antisymm, le-of-lt, mul-le-mul, mul-assoc, mul-comm, mul-left-comm, one-mul, mul-add, add-mul, add-assoc, add-comm, add-left-comm, div-mul-le-self, lt-div-mul-add, le-of-mul-le-mul-right, lt-of-mul-lt-mul-right, mul-pos, mul-le-mul-left, mul-le-mul-right, mul-lt-mul-of-pos-right, le-div-iff-mul-le, div-lt-iff-lt-mul}
+use native.Mathlib.Nat.{le-trans, le-of-eq, lt-of-lt-of-le, lt-of-le-of-lt, lt-of-not-le, le-antisymm, mul-assoc, mul-comm, mul-left-comm, one-mul, mul-add, add-mul, div-mul-le-self, lt-div-mul-add, le-of-mul-le-mul-right, lt-of-mul-lt-mul-right, mul-pos, mul-le-mul-left, le-div-iff-mul-le, div-lt-iff-lt-mul}
 use native.Mathlib.Omega.{arith}
-use lib.Pow.{pow-pos, pow-mono, pow-add}
+use lib.Pow.{pow-pos, pow-add}
 use lib.Ieee.{size, odd}
 use lib.Ieee.Digits.{size-lt, size-le}
 use Rattle.root.specs.Root.{root, IsRoot, Near}
 use Rattle.root.specs.Sqrt.{sqrtUnits}
-use Rattle.root.proofs.WholeRoot.{root-is, root-unique, sq-mono, sq-lt-back}
+use Rattle.root.proofs.WholeRoot.{root-is}
+use Rattle.root.proofs.Arith.{le-of-lt-suc, squares, sq-mono, sq-lt-back, pow-lt-back}
 
 -- ---- a root with its last digits cut off
-
-squares : (a b : ℕ) → a * b * (a * b) ≡ a * a * (b * b)
-squares a b = simp (mul-assoc, mul-comm, mul-left-comm) refl
 
 -- the root of n * p * p, divided by p, is the root of n
 pub root-cut : (n p R : ℕ) → 0 < p → IsRoot (n * (p * p)) R → IsRoot n (R / p)
@@ -35,9 +33,6 @@ root-cut n p R P h =
     next Q = up (R / p * p) p ((R / p + 1) * p) (grown (R / p) p) (lt-div-mul-add P)
 
 -- ---- how many digits the root has
-
-pow-lt-back : (i p : ℕ) → 2 ^ i < 2 ^ p → i < p
-pow-lt-back i p h = lt-of-not-le (λ (g : p ≤ i). not-le-of-lt h (pow-mono g))
 
 size-exact : (a n : ℕ) → 2 ^ a ≤ n → n < 2 ^ suc a → size n ≡ suc a
 size-exact a n lo hi = le-antisymm (size-le n (suc a) hi) (pow-lt-back a (size n) (lt-of-le-of-lt lo (size-lt n)))
@@ -186,9 +181,6 @@ scaled-same m g l =
 pub near-in : (a q : ℕ) → 2 ^ 52 ≤ a → a < 2 ^ 54 - 1 → Near (a * 2 ^ 52) q → (2 ^ 52 ≤ q) × (q < 2 ^ 53)
 near-in a q lo hi n = (le-of-lt-suc (lt-of-not-le (λ (g : suc q ≤ 2 ^ 52). small q g n)), lt-of-not-le (λ (g : 2 ^ 53 ≤ q). large q g n))
   where
-    le-of-lt-suc : {x y : ℕ} → x < suc y → x ≤ y
-    le-of-lt-suc h = omega arith
-
     small : (q : ℕ) → suc q ≤ 2 ^ 52 → Near (a * 2 ^ 52) q → ⊥
     small q g n =
         let s : q * q ≤ q * (2 ^ 52 - 1) = mul-le-mul-left q (omega arith) in

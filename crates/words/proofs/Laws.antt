@@ -1,6 +1,6 @@
 -- The arithmetic of a product from halves, and of a rotation from two shifts. Assumes nothing.
-use mathlib.Core.Path.{_≡_, refl, sym, ap, ap₂, _∙_, subst}
-use Prim.Native.Nat.{ℕ, _+_, _-_, _*_, _/_, _%_, _^_, _<_, _≤_}
+use mathlib.Core.Path.{_≡_, sym, ap, ap₂, _∙_, subst}
+use Prim.Native.Nat.{ℕ, _+_, _-_, _*_, _/_, _%_, _^_, _<_}
 use native.Mathlib.Nat.{add-mul, mul-add, mul-assoc, mul-right-comm, mul-le-mul-left, mul-lt-mul-of-pos-right, le-of-lt, lt-of-le-of-lt, sub-add-cancel, add-comm, mul-mod-left, add-zero, mul-one, mod-eq-of-lt, div-eq-of-lt}
 use native.Mathlib.Omega.{arith}
 use lib.Pow.{pow-pos, split, shr-lt, mod-pow-add, shl-shr}

@@ -1,7 +1,7 @@
 -- `roots::guess` is safe: the pattern that it makes is no NaN's. Assumes nothing.
 use borrow.Author.Needs.{needs}
 use native.Mathlib.Omega.{arith}
-use Prim.Native.Nat.{ℕ, _-_, _/_}
+use Prim.Native.Nat.{_-_, _/_}
 use Rattle.root.proofs.Cases.{no-nan-bits}
 use Rattle.root.proofs.guess.Statement.{statement}
 use Rattle.root.proofs.guess.Tie as tie

@@ -1,7 +1,7 @@
 -- `roots::root_bits` meets its contract (`specs/Bits.antt`). Assumes nothing.
 use borrow.Author.Needs.{needs}
 use mathlib.Core.Path.{subst, sym}
-use Prim.Native.Nat.{ℕ, _*_, _-_, _^_, _≤_, _<_, _%_}
+use Prim.Native.Nat.{ℕ, _*_, _-_, _^_, _≤_, _<_}
 use native.Mathlib.Omega.{arith}
 use Rattle.root.specs.Root.{Near}
 use Rattle.root.proofs.Scaling.{scaled-in, near-in}

@@ -1,9 +1,7 @@
 -- `roots::take_apart` meets its contract. The two cases are in `specs/Apart.antt`. Assumes nothing.
 use borrow.Author.Needs.{needs}
-use mathlib.Core.Path.{_≡_, sym, ap, _∙_}
-use Prim.Native.Nat.{ℕ, _+_, _-_, _*_, _/_, _%_, _^_, _≤_, _<_}
+use Prim.Native.Nat.{_-_}
 use native.Mathlib.Omega.{arith}
-use lib.Count.{leadingZeros}
 use Rattle.root.proofs.Decompose.{zeros, shifted, plain}
 use Rattle.root.proofs.take_apart.Statement.{statement}
 use Rattle.root.proofs.take_apart.Tie as tie
