@@ -1,0 +1,80 @@
+//! What was compared and what differed.
+
+use std::collections::BTreeMap;
+use std::fmt;
+
+/// How many mismatches of each call are printed.
+const SHOWN: u64 = 5;
+
+/// The pattern of a number, with one pattern for all NaNs. The test is on the pattern: which NaN an
+/// operation gives is open to the compiler, so that it may drop `is_nan` and keep the one at hand.
+pub fn bits(x: f64) -> u64 {
+    let pattern = x.to_bits();
+    let magnitude = pattern & (u64::MAX >> 1);
+    if magnitude > f64::INFINITY.to_bits() {
+        f64::NAN.to_bits()
+    } else {
+        pattern
+    }
+}
+
+#[derive(Default)]
+pub struct Tally {
+    compared: u64,
+    mismatches: BTreeMap<&'static str, u64>,
+}
+
+impl Tally {
+    /// Holds one call's whole answer to the reference's, both as words. A mismatch is printed while
+    /// the call has had few.
+    pub fn check(&mut self, call: &'static str, inputs: &[u64], rattle: &[u64], rust: &[u64]) {
+        self.compared += 1;
+        if rattle != rust {
+            self.mismatch(call, inputs, rattle, rust);
+        }
+    }
+
+    #[cold]
+    fn mismatch(&mut self, call: &'static str, inputs: &[u64], rattle: &[u64], rust: &[u64]) {
+        let count = self.mismatches.entry(call).or_default();
+        *count += 1;
+        if *count <= SHOWN {
+            println!(
+                "mismatch: {call}({}): Rattle {}, Rust {}",
+                hex(inputs),
+                hex(rattle),
+                hex(rust)
+            );
+        } else if *count == SHOWN + 1 {
+            println!("mismatch: {call}: further ones are counted only");
+        }
+    }
+
+    pub fn mismatches(&self) -> u64 {
+        self.mismatches.values().sum()
+    }
+
+    /// Adds another tally's counts to this one's.
+    pub fn absorb(&mut self, other: Tally) {
+        self.compared += other.compared;
+        for (call, count) in other.mismatches {
+            *self.mismatches.entry(call).or_default() += count;
+        }
+    }
+}
+
+impl fmt::Display for Tally {
+    fn fmt(&self, f: &mut fmt::Formatter<'_>) -> fmt::Result {
+        write!(
+            f,
+            "{} compared, {} mismatches",
+            self.compared,
+            self.mismatches()
+        )
+    }
+}
+
+fn hex(words: &[u64]) -> String {
+    let each: Vec<String> = words.iter().map(|w| format!("{w:016x}")).collect();
+    each.join(" ")
+}
