@@ -172,7 +172,7 @@ bits-in x t b =
     let f = fits-parts false m e (subst (λ (z : Float). T (fits binary64 z)) (b .is) t) in
     subst In (sym (ap (toBits binary64) (b .is) ∙ toBits-is (suc m) e)) (pattern-in (suc m * up e * 2 ^ 1074 / down e) (units-pos m e (f .coarse)) (units-lt (suc m) e (f .small)))
 
-pub root-of-bits : (x : Float) (r : ℕ) → T (fits binary64 x) → PositiveFinite x → ofBits binary64 r ≡ sqrtUnits (unitsBits (toBits binary64 x)) → ofBits binary64 r ≡ sqrtOf x
+pub root-of-bits : (x r : Float) → T (fits binary64 x) → PositiveFinite x → r ≡ sqrtUnits (unitsBits (toBits binary64 x)) → r ≡ sqrtOf x
 root-of-bits x r t b h =
     let i = bits-in x t b in
     h ∙ sym (sqrt-of-bits (toBits binary64 x) (i .0) (i .1)) ∙ ap sqrtOf (ofBits-toBits binary64 x t)

@@ -19,7 +19,7 @@ use Rattle.root.specs.Parts.{unitsBits}
 use Rattle.root.specs.Nearest.{Units, NearestRoot, SquareRoot}
 use Rattle.root.proofs.WholeRoot.{root-is}
 use Rattle.root.proofs.Arith.{le-of-not-lt, squares, sq-mono, sq-lt, pow-le-back}
-use Rattle.root.proofs.Decompose.{parts-of}
+use Rattle.root.proofs.Significand.{parts-of}
 use Rattle.root.proofs.Scaling.{sqrtUnits-at, scaled-in, scaled-same, nearest-is}
 use Rattle.root.proofs.Assemble.{bits-of}
 use Rattle.root.proofs.Patterns.{sqrt-of-bits, bits-units}

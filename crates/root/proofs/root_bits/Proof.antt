@@ -12,8 +12,8 @@ use Rattle.root.proofs.root_bits.Tie as tie
 -- what is rooted has 53 or 54 digits
 rooted : (c : tie.After-scaled) → (2 ^ 52 ≤ c .scaled .result) × (c .scaled .result < 2 ^ 54 - 1)
 rooted c =
-    let p = c .before .take-apart .result in
-    let e = c .before .take-apart .ensures in
+    let p = c .before .decompose .result in
+    let e = c .before .decompose .ensures in
     subst (λ (a : ℕ). (2 ^ 52 ≤ a) × (a < 2 ^ 54 - 1)) (sym (c .scaled .ensures)) (scaled-in (p .m) (p .g) (e .low) (e .high))
 
 -- and its root 53
@@ -22,20 +22,8 @@ digits c =
     let r = rooted (c .before) in
     near-in (c .before .scaled .result) (c .nearest-root .result) (r .0) (r .1) (c .nearest-root .ensures)
 
-take-apart-requires : tie.Need-take-apart-requires
-take-apart-requires c κs = search needs
-
-scaled-requires : tie.Need-scaled-requires
-scaled-requires c κs = search needs
-
 nearest-root-requires : tie.Need-nearest-root-requires
 nearest-root-requires c κs = (rooted c .0, rooted c .1, c .before .before .pre .2, c .before .before .pre .3)
-
-sub-result : tie.Need-sub-result
-sub-result c = search needs
-
-mul-result : tie.Need-mul-result
-mul-result c = search needs
 
 add-result : tie.Need-add-result
 add-result c = omega (arith, digits (c .before))
@@ -43,19 +31,10 @@ add-result c = omega (arith, digits (c .before))
 returns : tie.Need-returns
 returns c =
     let at = c .before .before .before in
-    let p = at .take-apart .result in
+    let p = at .decompose .result in
     let d = digits (c .before) in
-    bits-of (at .before .args .b) (p .m) (p .g) (c .before .nearest-root .result) (at .take-apart .ensures)
+    bits-of (at .before .args .b) (p .m) (p .g) (c .before .nearest-root .result) (at .decompose .ensures)
     (subst (λ (a : ℕ). Near (a * 2 ^ 52) (c .before .nearest-root .result)) (c .before .before .scaled .ensures) (c .before .nearest-root .ensures)) (d .0) (d .1)
 
 pub root-bits-spec : {M : Type 1} → statement M
-root-bits-spec =
-    tie.close
-    (tie.spec
-    take-apart-requires
-    scaled-requires
-    nearest-root-requires
-    sub-result
-    mul-result
-    add-result
-    returns)
+root-bits-spec = tie.close (tie.spec (λ c κs. search needs) (λ c κs. search needs) nearest-root-requires (λ c. search needs) (λ c. search needs) add-result returns)

@@ -1,10 +1,10 @@
--- `roots::take_apart` meets its contract. The two cases are in `specs/Apart.antt`. Assumes nothing.
+-- `roots::decompose` meets its contract. The two cases are in `specs/Apart.antt`. Assumes nothing.
 use borrow.Author.Needs.{needs}
 use Prim.Native.Nat.{_-_}
 use native.Mathlib.Omega.{arith}
-use Rattle.root.proofs.Decompose.{zeros, shifted, plain}
-use Rattle.root.proofs.take_apart.Statement.{statement}
-use Rattle.root.proofs.take_apart.Tie as tie
+use Rattle.root.proofs.Significand.{zeros, shifted, plain}
+use Rattle.root.proofs.decompose.Statement.{statement}
+use Rattle.root.proofs.decompose.Tie as tie
 
 sub-s : tie.Need-sub-s
 sub-s c = omega (arith, zeros (c .before .args .b) (c .before .pre .0) (c .if1 .taken))
@@ -21,18 +21,11 @@ cast-t8 c = omega (arith, zeros (c .before .args .b) (c .before .pre .0) (c .if1
 sub-t9 : tie.Need-sub-t9
 sub-t9 c = omega (arith, zeros (c .before .args .b) (c .before .pre .0) (c .if1 .taken))
 
-add-t11 : tie.Need-add-t11
-add-t11 c = search needs
-
-add-t13 : tie.Need-add-t13
-add-t13 c = search needs
-
 returns : tie.Need-returns
 returns c = shifted (c .before .args .b) (c .before .pre .0) (c .if1 .taken)
 
 returns-2 : tie.Need-returns-2
 returns-2 c = plain (c .before .args .b) (c .if1 .left) (c .before .pre .1)
 
-pub take-apart-spec : {M : Type 1} → statement M
-take-apart-spec =
-    tie.close (tie.spec sub-s cast-t6 shl-t7 cast-t8 sub-t9 add-t11 add-t13 returns returns-2)
+pub decompose-spec : {M : Type 1} → statement M
+decompose-spec = tie.close (tie.spec sub-s cast-t6 shl-t7 cast-t8 sub-t9 (λ c. search needs) (λ c. search needs) returns returns-2)
