@@ -1,8 +1,9 @@
 -- The cases of `sqrt`, by its tests. Assumes nothing.
 use mathlib.Core.Path.{_≡_, refl, sym, ap, _∙_, subst}
 use Prim.Native.Nat.{ℕ, zero, suc, _+_, _-_, _*_, _/_, _%_, _^_, _≤_, _<_}
-use native.Mathlib.Nat.{le-trans, le-of-eq, lt-of-lt-of-le, lt-irrefl, zero-lt-suc, zero-mul, mul-pos, mul-one, mul-right-comm, mul-le-mul-right, mul-lt-mul-of-pos-right, le-div-iff-mul-le, div-lt-iff-lt-mul, one-mul, mod-eq-of-lt, div-one}
+use native.Mathlib.Nat.{le-trans, le-of-eq, lt-of-lt-of-le, lt-irrefl, not-le-of-lt, zero-lt-suc, zero-mul, mul-pos, mul-one, mul-right-comm, mul-le-mul-right, mul-lt-mul-of-pos-right, le-div-iff-mul-le, div-lt-iff-lt-mul, one-mul, mod-eq-of-lt, div-one}
 use native.Mathlib.Omega.{arith}
+use mathlib.Core.Logic.{_⊎_, inl, inr, ⊎-elim}
 use mathlib.Core.Bool.{Bool, true, false, not, _&&_, _||_, Bool·beq, true≢false, false≢true}
 use lib.IntN.{ℤ, pos}
 use lib.Dec.{T, leb, ltb, eqb, ltb→lt, leb→le, eqb→eq}
@@ -21,16 +22,9 @@ use Rattle.root.proofs.Patterns.{infinity, sqrt-of-bits}
 abbrev pub plus-zero : Float
 plus-zero = ofBits binary64 0
 
-abbrev pub plus-infinity : Float
-plus-infinity = div binary64 (ofBits binary64 0x3ff0_0000_0000_0000) (ofBits binary64 0)
-
 plus-zero-is : plus-zero ≡ fin false 0 (pos 0)
 unfolding ofBits
 plus-zero-is = refl
-
-plus-infinity-is : plus-infinity ≡ inf false
-unfolding ofBits div
-plus-infinity-is = refl
 
 pub nan-is : div binary64 plus-zero plus-zero ≡ nan
 unfolding ofBits div
@@ -50,28 +44,18 @@ pub record PositiveFinite (x : Float) : Type 0 where
 below-zero : (e : ℤ) → ltb (0 * down e) (0 * up e * 1) ≡ false
 below-zero e = ap (λ (z : ℕ). ltb (0 * down e) (z * 1)) (zero-mul (up e)) ∙ le-ltb (0 * down e) 0 (omega arith)
 
-positive-finite′ : (x : Float) → lt (fin false 0 (pos 0)) x ≡ true → lt x (inf false) ≡ true → PositiveFinite x
+-- a value above zero is finite, or it is the infinity
+above-zero : (x : Float) → lt (fin false 0 (pos 0)) x ≡ true → PositiveFinite x ⊎ (x ≡ inf false)
 unfolding lt
-positive-finite′ nan p q = absurd (false≢true p)
-positive-finite′ (inf true) p q = absurd (false≢true p)
-positive-finite′ (inf false) p q = absurd (false≢true q)
-positive-finite′ (fin true m e) p q = absurd (false≢true p)
-positive-finite′ (fin false zero e) p q = absurd (clash (ltb (0 * down e) (0 * up e * 1)) p (below-zero e))
-positive-finite′ (fin false (suc m) e) p q = record { m = m; e = e; is = refl }
+above-zero nan p = absurd (false≢true p)
+above-zero (inf true) p = absurd (false≢true p)
+above-zero (inf false) p = inr refl
+above-zero (fin true m e) p = absurd (false≢true p)
+above-zero (fin false zero e) p = absurd (clash (ltb (0 * down e) (0 * up e * 1)) p (below-zero e))
+above-zero (fin false (suc m) e) p = inl (record { m = m; e = e; is = refl })
 
-pub positive-finite : (x : Float) → lt plus-zero x ≡ true → lt x plus-infinity ≡ true → PositiveFinite x
-positive-finite x p q = positive-finite′ x (subst (λ (z : Float). lt z x ≡ true) plus-zero-is p) (subst (λ (z : Float). lt x z ≡ true) plus-infinity-is q)
-
-at-infinity′ : (x : Float) → lt (fin false 0 (pos 0)) x ≡ true → lt x (inf false) ≡ false → x ≡ sqrtOf x
-unfolding lt sqrtOf
-at-infinity′ nan p q = absurd (false≢true p)
-at-infinity′ (inf true) p q = absurd (false≢true p)
-at-infinity′ (inf false) p q = refl
-at-infinity′ (fin true m e) p q = absurd (false≢true p)
-at-infinity′ (fin false m e) p q = absurd (true≢false q)
-
-pub at-infinity : (x : Float) → lt plus-zero x ≡ true → lt x plus-infinity ≡ false → x ≡ sqrtOf x
-at-infinity x p q = at-infinity′ x (subst (λ (z : Float). lt z x ≡ true) plus-zero-is p) (subst (λ (z : Float). lt x z ≡ false) plus-infinity-is q)
+above : (x : Float) → lt plus-zero x ≡ true → PositiveFinite x ⊎ (x ≡ inf false)
+above x p = above-zero x (subst (λ (z : Float). lt z x ≡ true) plus-zero-is p)
 
 and-true : (a b : Bool) → (a && b) ≡ true → a ≡ true
 and-true true b p = refl
@@ -116,10 +100,6 @@ pub at-nan : (x : Float) → lt plus-zero x ≡ false → eq x plus-zero ≡ fal
 at-nan x p q = nan-is ∙ sym (at-nan′ x (subst (λ (z : Float). lt z x ≡ false) plus-zero-is p) (subst (λ (z : Float). eq x z ≡ false) plus-zero-is q))
 
 -- ---- the pattern of a positive finite value
-
-pub not-nan : (x : Float) → PositiveFinite x → T (not (isNan x))
-unfolding isNan
-not-nan x b = subst (λ (z : Float). T (not (isNan z))) (sym (b .is)) tt
 
 abbrev In : ℕ → Type 0
 In b = (0 < b) × (b < infinity)
@@ -171,6 +151,18 @@ bits-in x t b =
     let e = b .e in
     let f = fits-parts false m e (subst (λ (z : Float). T (fits binary64 z)) (b .is) t) in
     subst In (sym (ap (toBits binary64) (b .is) ∙ toBits-is (suc m) e)) (pattern-in (suc m * up e * 2 ^ 1074 / down e) (units-pos m e (f .coarse)) (units-lt (suc m) e (f .small)))
+
+infinity-bits : toBits binary64 (inf false) ≡ infinity
+unfolding toBits
+infinity-bits = refl
+
+-- which of the two it is, its pattern tells
+pub positive-finite : (x : Float) → lt plus-zero x ≡ true → toBits binary64 x < infinity → PositiveFinite x
+positive-finite x p h = ⊎-elim (λ w. w) (λ w. absurd (lt-irrefl infinity (subst (λ (b : ℕ). b < infinity) (ap (toBits binary64) w ∙ infinity-bits) h))) (above x p)
+
+pub at-infinity : (x : Float) → T (fits binary64 x) → lt plus-zero x ≡ true → infinity ≤ toBits binary64 x → x ≡ sqrtOf x
+unfolding sqrtOf
+at-infinity x t p h = ⊎-elim (λ w. absurd (not-le-of-lt (bits-in x t w .1) h)) (λ w. w ∙ sym (ap sqrtOf w)) (above x p)
 
 pub root-of-bits : (x r : Float) → T (fits binary64 x) → PositiveFinite x → r ≡ sqrtUnits (unitsBits (toBits binary64 x)) → r ≡ sqrtOf x
 root-of-bits x r t b h =

@@ -1,4 +1,4 @@
--- `roots::by_digits` meets its contract: half of the root of four times as much, rounded up, is the nearest whole number (`specs/Core.antt`). Assumes nothing.
+-- Half of the root of four times as much, rounded up, is the nearest whole number (`nearest-is`).
 use borrow.Author.Needs.{needs}
 use native.Mathlib.Omega.{arith}
 use Rattle.root.proofs.Scaling.{nearest-is, root-bounds}

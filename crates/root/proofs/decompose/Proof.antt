@@ -1,4 +1,3 @@
--- `roots::decompose` meets its contract. The two cases are in `specs/Apart.antt`. Assumes nothing.
 use borrow.Author.Needs.{needs}
 use Prim.Native.Nat.{_-_}
 use native.Mathlib.Omega.{arith}

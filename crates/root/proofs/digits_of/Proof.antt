@@ -1,4 +1,4 @@
--- `roots::digits_of` meets its contract. A float above zero is no NaN. Assumes nothing.
+-- A float above zero is no NaN.
 use borrow.Author.Needs.{needs}
 use Rattle.root.proofs.Cases.{above-not-nan}
 use Rattle.root.proofs.digits_of.Statement.{statement}

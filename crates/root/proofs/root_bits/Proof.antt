@@ -1,4 +1,3 @@
--- `roots::root_bits` meets its contract (`specs/Bits.antt`). Assumes nothing.
 use borrow.Author.Needs.{needs}
 use mathlib.Core.Path.{subst, sym}
 use Prim.Native.Nat.{ℕ, _*_, _-_, _^_, _≤_, _<_}
