@@ -1,14 +1,15 @@
 -- `uniformOf` rounds nothing, and the code's product is it. Assumes nothing.
-use mathlib.Core.Path.{_≡_, refl, sym, ap, _∙_}
+use mathlib.Core.Path.{_≡_, refl, sym, ap, _∙_, subst}
 use Prim.Native.Nat.{ℕ, _*_, _/_, _%_, _^_, _<_, _≤_}
-use native.Mathlib.Nat.{mul-assoc, mul-pos, lt-of-lt-of-le}
+use native.Mathlib.Nat.{mul-assoc, mul-comm, mul-one, one-mul, mul-pos, mul-lt-mul-of-pos-right, lt-of-mul-lt-mul-right, lt-of-lt-of-le}
 use native.Mathlib.Omega.{arith}
 use mathlib.Core.Bool.{true, false, true≢false}
 use lib.IntN.{pos, negsuc}
 use lib.Dec.{lit≤}
+use borrow.Author.Tests.{lt-ltb}
 use lib.Pow.{pow-pos, pow-mono, shl-lt}
 use lib.Ieee as Ieee
-use lib.Ieee.{Float, nan, inf, fin, binary64, ofInt, ofBits, round, up, down}
+use lib.Ieee.{Float, nan, inf, fin, binary64, ofInt, ofBits, round, up, down, lt}
 use lib.Ieee.Exact.{HasValue, round-exact}
 use lib.Ieee.Fits.{down-pos}
 use lib.Ieee.Back.{round-whole}
@@ -18,14 +19,28 @@ use Rattle.rng.specs.Uniform.{uniformOf, ExactUniform}
 pub top-bits-lt : (raw : ℕ) → raw < 2 ^ 64 → raw / 2 ^ 11 < 2 ^ 53
 top-bits-lt raw h = omega arith
 
-pub uniform-exact : (raw : ℕ) → raw < 2 ^ 64 → ExactUniform raw
+fraction-exact : (raw : ℕ) → raw < 2 ^ 64 → HasValue (uniformOf raw) false (raw / 2 ^ 11) (2 ^ 53)
 unfolding uniformOf
-uniform-exact raw h =
+fraction-exact raw h =
     let n = raw / 2 ^ 11 in
-    record {
-      exact = round-exact binary64 false n (2 ^ 53) n 1021 (pow-pos 53) (top-bits-lt raw h) (lt-of-lt-of-le (shl-lt 53 1021 (top-bits-lt raw h)) (pow-mono {i = 1074} {j = 2098} (lit≤ tt))) (sym (mul-assoc n (2 ^ 1021) (2 ^ 53)));
-      below-one = top-bits-lt raw h;
-    }
+    round-exact binary64 false n (2 ^ 53) n 1021 (pow-pos 53) (top-bits-lt raw h) (lt-of-lt-of-le (shl-lt 53 1021 (top-bits-lt raw h)) (pow-mono {i = 1074} {j = 2098} (lit≤ tt))) (sym (mul-assoc n (2 ^ 1021) (2 ^ 53)))
+
+-- a fraction below 1 is below 1 as a float
+fraction-below-one : (x : Float) (n d : ℕ) → 0 < d → n < d → HasValue x false n d → lt x (fin false 1 (pos 0)) ≡ true
+unfolding lt
+fraction-below-one nan n d p h v = absurd v
+fraction-below-one (inf s) n d p h v = absurd v
+fraction-below-one (fin true m e) n d p h v = absurd (true≢false (v .0))
+fraction-below-one (fin false m e) n d p h v =
+    lt-ltb (m * up e * 1) (1 * 1 * down e)
+    (lt-of-mul-lt-mul-right d (subst (λ (z : ℕ). z * d < 1 * 1 * down e * d) (sym (mul-one (m * up e)))
+    (subst (λ (z : ℕ). z < 1 * 1 * down e * d) (sym (v .1))
+    (subst (λ (z : ℕ). n * down e < z) (mul-comm d (down e) ∙ ap (λ (z : ℕ). z * d) (sym (one-mul (down e)))) (mul-lt-mul-of-pos-right h (down-pos e))))))
+
+pub uniform-exact : (raw : ℕ) → raw < 2 ^ 64 → ExactUniform raw
+uniform-exact raw h =
+    let value = fraction-exact raw h in
+    record { exact = value; below-one = fraction-below-one (uniformOf raw) (raw / 2 ^ 11) (2 ^ 53) (pow-pos 53) (top-bits-lt raw h) value }
 
 -- a whole number times 2 ^ -53
 times-unit : (x : Float) (n : ℕ) → HasValue x false n 1 → Ieee.mul binary64 x (fin false 1 (negsuc 52)) ≡ round binary64 false n (2 ^ 53)

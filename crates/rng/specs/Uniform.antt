@@ -1,7 +1,9 @@
 -- A uniform number of a drawn word: its top 53 bits over 2 ^ 53. Definitions, and the claim that nothing is rounded.
-use Prim.Native.Nat.{ℕ, _/_, _^_, _<_}
-use mathlib.Core.Bool.{false}
-use lib.Ieee.{Float, binary64, round}
+use mathlib.Core.Path.{_≡_}
+use Prim.Native.Nat.{ℕ, _/_, _^_}
+use mathlib.Core.Bool.{true, false}
+use lib.IntN.{pos}
+use lib.Ieee.{Float, fin, binary64, round, lt}
 use lib.Ieee.Exact.{HasValue}
 use Rattle.rng.specs.Xoshiro.{drawOf}
 use Rattle.rng.specs.declared.Rng.{Rng}
@@ -19,4 +21,4 @@ uniformDrawOf g = record { value = uniformOf (drawOf g .value); rng = drawOf g .
 -- that fraction is an f64: the number is the fraction itself, with a clear sign, and below 1
 pub record ExactUniform (raw : ℕ) : Type 0 where
   pub exact : HasValue (uniformOf raw) false (raw / 2 ^ 11) (2 ^ 53)
-  pub below-one : raw / 2 ^ 11 < 2 ^ 53
+  pub below-one : lt (uniformOf raw) (fin false 1 (pos 0)) ≡ true
