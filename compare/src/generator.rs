@@ -84,9 +84,9 @@ fn drawn(value: u64, [a, b, c, d]: State) -> [u64; 5] {
     [value, a, b, c, d]
 }
 
-/// The reference has no such function: the formula is the one in its `uniform`.
+/// The reference has no such function: its `uniform` is asked at a state that draws `raw`.
 fn uniform_of(tally: &mut Tally, raw: u64) {
-    let rust = (raw >> 11) as f64 * (1.0 / (1u64 << 53) as f64);
+    let rust = Rng::of_state([0, 0, 0, raw.rotate_right(23)]).uniform();
     tally.check(
         "jj_uniform_of",
         &[raw],

@@ -81,16 +81,18 @@ fn splitmix64(tally: Tally, seed: u64, wanted: &[u64; 5]) -> Tally {
     t
 }
 
-// Each draw is made by value and by lending.
+// Each draw is made by value and by lending, from a generator of its own.
 fn xoshiro256(tally: Tally, wanted: &[u64; 10]) -> Tally {
     let mut t = tally;
     let mut g = rng::Rng { s: [1, 2, 3, 4] };
+    let mut h = rng::Rng { s: [1, 2, 3, 4] };
     for i in 0..10usize {
         let d = g.next_u64();
         t = t.whole(b"xoshiro256++ ", d.value, wanted[i]);
-        let l = rng::draw_lent(g);
+        g = d.rng;
+        let l = rng::draw_lent(h);
         t = t.whole(b"xoshiro256++ lent ", l.value, wanted[i]);
-        g = l.rng;
+        h = l.rng;
     }
     t
 }

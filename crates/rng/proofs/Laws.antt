@@ -14,7 +14,7 @@ use lib.Ieee.Exact.{HasValue, round-exact}
 use lib.Ieee.Fits.{down-pos}
 use lib.Ieee.Back.{round-whole}
 use lib.Ieee.Scale.{round-same}
-use Rattle.rng.specs.Uniform.{uniformOf, ExactUniform}
+use Rattle.rng.specs.Uniform.{uniformOf, UniformIsExact}
 
 pub top-bits-lt : (raw : ℕ) → raw < 2 ^ 64 → raw / 2 ^ 11 < 2 ^ 53
 top-bits-lt raw h = omega arith
@@ -37,7 +37,7 @@ fraction-below-one (fin false m e) n d p h v =
     (subst (λ (z : ℕ). z < 1 * 1 * down e * d) (sym (v .1))
     (subst (λ (z : ℕ). n * down e < z) (mul-comm d (down e) ∙ ap (λ (z : ℕ). z * d) (sym (one-mul (down e)))) (mul-lt-mul-of-pos-right h (down-pos e))))))
 
-pub uniform-exact : (raw : ℕ) → raw < 2 ^ 64 → ExactUniform raw
+pub uniform-exact : UniformIsExact
 uniform-exact raw h =
     let value = fraction-exact raw h in
     record { exact = value; below-one = fraction-below-one (uniformOf raw) (raw / 2 ^ 11) (2 ^ 53) (pow-pos 53) (top-bits-lt raw h) value }

@@ -1,4 +1,4 @@
--- splitmix64, the generator that Blackman and Vigna give for seeding: a counter that moves on by a constant, and its state mixed by two products. Definitions only.
+-- splitmix64, of Steele, Lea and Flood, which Blackman and Vigna give for seeding: a counter that moves on by a constant, and two products that mix it. Definitions only.
 use Prim.Native.Nat.{ℕ, _/_, _^_}
 use lib.Bits.{bitXor}
 use Rattle.words.specs.Words.{add64, mul64}

@@ -1,6 +1,6 @@
 -- A uniform number of a drawn word: its top 53 bits over 2 ^ 53. Definitions, and the claim that nothing is rounded.
 use mathlib.Core.Path.{_≡_}
-use Prim.Native.Nat.{ℕ, _/_, _^_}
+use Prim.Native.Nat.{ℕ, _/_, _^_, _<_}
 use mathlib.Core.Bool.{true, false}
 use lib.IntN.{pos}
 use lib.Ieee.{Float, fin, binary64, round, lt}
@@ -22,3 +22,6 @@ uniformDrawOf g = record { value = uniformOf (drawOf g .value); rng = drawOf g .
 pub record ExactUniform (raw : ℕ) : Type 0 where
   pub exact : HasValue (uniformOf raw) false (raw / 2 ^ 11) (2 ^ 53)
   pub below-one : lt (uniformOf raw) (fin false 1 (pos 0)) ≡ true
+
+abbrev pub UniformIsExact : Type 0
+UniformIsExact = (raw : ℕ) → raw < 2 ^ 64 → ExactUniform raw

@@ -68,8 +68,8 @@ impl Rng {
         ensures { λ r. ⌜ r ≡ drawOf self ⌝ }
     {
         let s = self.s;
-        let turned = words::rotate_left(std::num::wrapping_add_u64(s[0], s[3]), 23);
-        let value = std::num::wrapping_add_u64(turned, s[0]);
+        let rotated = words::rotate_left(std::num::wrapping_add_u64(s[0], s[3]), 23);
+        let value = std::num::wrapping_add_u64(rotated, s[0]);
         let t = s[1] << 17;
         let s2 = s[2] ^ s[0];
         let s3 = s[3] ^ s[1];

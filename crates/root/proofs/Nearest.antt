@@ -16,7 +16,7 @@ use lib.Ieee.Bits.{ofBits-toBits, ofBits-fits}
 use Rattle.root.specs.Root.{root, Near}
 use Rattle.root.specs.Sqrt.{sqrtUnits, sqrtOf}
 use Rattle.root.specs.Parts.{unitsBits}
-use Rattle.root.specs.Nearest.{Units, NearestRoot, SquareRoot}
+use Rattle.root.specs.Nearest.{Units, NearestRoot, SquareRoot, OnlySquareRoot}
 use Rattle.root.proofs.WholeRoot.{root-is}
 use Rattle.root.proofs.Arith.{le-of-not-lt, squares, sq-mono, sq-lt, pow-le-back}
 use Rattle.root.proofs.Significand.{parts-of}
@@ -90,36 +90,28 @@ next-below c j k p C P h = go (decLe k j)
 
 -- ---- the squares
 
+-- q * P and the next multiple of P, added
+twice-middle : (q P : ℕ) → (2 * q + 1) * P ≡ q * P + (q + 1) * P
+twice-middle q P = simp (mul-add, add-mul, mul-assoc, mul-comm, mul-left-comm) (omega arith)
+
 -- with P for 2 ^ k
 over : (B q P a : ℕ) → 0 < P → Near B q → (q + 1) * P ≤ a → 4 * (B * (P * P)) < (q * P + a) * (q * P + a)
 over B q P a Z n h =
-    let s : (2 * q + 1) * P ≤ q * P + a = le-trans (le-of-eq (twice q P)) (add-le (q * P) ((q + 1) * P) a h) in
+    let s : (2 * q + 1) * P ≤ q * P + a = let e = twice-middle q P in omega arith in
     lt-of-lt-of-le
     (lt-of-le-of-lt (le-of-eq (sym (mul-assoc 4 B (P * P))))
     (mul-lt-mul-of-pos-right {m = 4 * B} {n = (2 * q + 1) * (2 * q + 1)} (wide q n) (mul-pos Z Z)))
     (le-trans (le-of-eq (sym (squares (2 * q + 1) P))) (sq-mono s))
   where
-    add-le : (x y z : ℕ) → y ≤ z → x + y ≤ x + z
-    add-le x y z h = omega arith
-
-    twice : (q P : ℕ) → (2 * q + 1) * P ≡ q * P + (q + 1) * P
-    twice q P = simp (mul-add, add-mul, mul-assoc, mul-comm, mul-left-comm) (omega arith)
-
     wide : (q : ℕ) → Near B q → 4 * B < (2 * q + 1) * (2 * q + 1)
     wide q n = let e : (2 * q + 1) * (2 * q + 1) ≡ 4 * (q * q) + 4 * q + 1 = simp (mul-add, add-mul, mul-assoc, mul-comm, mul-left-comm) (omega arith) in omega arith
 
 under : (B p P a : ℕ) → 0 < P → Near B (p + 1) → a ≤ p * P → ((p + 1) * P + a) * ((p + 1) * P + a) < 4 * (B * (P * P))
 under B p P a Z n h =
-    let s : (p + 1) * P + a ≤ (2 * p + 1) * P = le-trans (add-le ((p + 1) * P) a (p * P) h) (le-of-eq (twice p P)) in
+    let s : (p + 1) * P + a ≤ (2 * p + 1) * P = let e = twice-middle p P in omega arith in
     lt-of-le-of-lt (le-trans (sq-mono s) (le-of-eq (squares (2 * p + 1) P)))
     (lt-of-lt-of-le (mul-lt-mul-of-pos-right {m = (2 * p + 1) * (2 * p + 1)} {n = 4 * B} (narrow p n) (mul-pos Z Z)) (le-of-eq (mul-assoc 4 B (P * P))))
   where
-    add-le : (x y z : ℕ) → y ≤ z → x + y ≤ x + z
-    add-le x y z h = omega arith
-
-    twice : (p P : ℕ) → (p + 1) * P + p * P ≡ (2 * p + 1) * P
-    twice p P = simp (mul-add, add-mul, mul-assoc, mul-comm, mul-left-comm) (omega arith)
-
     narrow : (p : ℕ) → Near B (p + 1) → (2 * p + 1) * (2 * p + 1) < 4 * B
     narrow p n =
         let e : (2 * p + 1) * (2 * p + 1) ≡ 4 * (p * p) + 4 * p + 1 = simp (mul-add, add-mul, mul-assoc, mul-comm, mul-left-comm) (omega arith) in
@@ -174,7 +166,7 @@ sqrtOf-nearest x t w =
     let Q = root (a * 2 ^ 54) in
     let q = (Q + 1) / 2 in
     let near = nearest-is a Q (s .0) (s .1) (root-is (a * 2 ^ 54)) in
-    let total : n * 2 ^ 1074 ≡ a * 2 ^ 54 * (2 ^ h * 2 ^ h) = p .same ∙ scaled-same m g (p .near) in
+    let total : n * 2 ^ 1074 ≡ a * 2 ^ 54 * (2 ^ h * 2 ^ h) = p .same ∙ scaled-same m g (p .least) in
     let is : sqrtUnits n ≡ odd 53 false q (h + 1) 1074 = sqrtUnits-at n a h q (s .0) (below-top a (s .1)) total (above-zero q (near .1)) (near .0) in
     let close = closest n (a * 2 ^ 52) q (h + 1) (total ∙ halves a h) (near .0) (enough a (s .0)) (near .1) in
     let root-is : sqrtOf x ≡ sqrtUnits n = ap sqrtOf (sym same) ∙ sqrt-of-bits b (i .0) (i .1) in
@@ -247,7 +239,6 @@ nearest-unique x r s p q = same-value r s (p .v) (p .held) (q .held) (p .r-is) (
 
 -- ---- the claims
 
--- `sqrtOf` is the square root
 pub sqrtOf-is-square-root : SquareRoot sqrtOf
 unfolding sqrtOf
 sqrtOf-is-square-root =
@@ -260,8 +251,7 @@ sqrtOf-is-square-root =
       not-a-number = refl;
     }
 
--- and there is no other: whatever is one agrees with it at every f64
-pub square-root-unique : (f : Float → Float) → SquareRoot f → (x : Float) → T (fits binary64 x) → f x ≡ sqrtOf x
+pub square-root-unique : OnlySquareRoot sqrtOf
 unfolding sqrtOf
 square-root-unique f h nan t = h .not-a-number
 square-root-unique f h (inf true) t = h .below-infinity

@@ -12,4 +12,4 @@ shl64 x k = (x * 2 ^ k) % 2 ^ 64
 
 -- x rotated left by k of 64 places: what is shifted out at the top comes in at the bottom
 abbrev pub rotl : ℕ → ℕ → ℕ
-rotl x k = (x * 2 ^ k) % 2 ^ 64 + x / 2 ^ (64 - k)
+rotl x k = shl64 x k + x / 2 ^ (64 - k)

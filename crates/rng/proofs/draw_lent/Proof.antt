@@ -42,6 +42,7 @@ use denote.Exit.{yes}
 use Rattle.rng.specs.declared.Rng.{Rng}
 use Rattle.rng.specs.declared.Draw.{Draw}
 use Rattle.rng.specs.Xoshiro.{drawOf}
+use Rattle.rng.proofs.Values.{rng-val, draw-val}
 use Rattle.rng.proofs.Rng as T
 use Rattle.rng.proofs.Rng.Laws as T′
 use Rattle.rng.proofs.Draw as D
@@ -57,12 +58,6 @@ use Rattle.rng.proofs.draw_lent.Code as code
 
 abbrev stayed : Stays (draw-lent.ended .signature .params) (draw-lent.ended .kept)
 stayed = (stay-none (λ _. T.the-row) yes, tt)
-
-abbrev rng-val : Rng → Val
-rng-val = LL.val T.the-type T′.the-laws
-
-abbrev draw-val : Draw → Val
-draw-val = LL.val D.the-type D′.the-laws
 
 abbrev IsRng : Rng → Type 0
 IsRng g = Is T.the-row g (rng-val g ∷ [])

@@ -1,5 +1,5 @@
--- `rng::next_u64_mut` meets its contract: a walk of its MIR, by hand. The borrow is opened, the record is copied out and passed to `next` by value; the record in the draw is stored back whole, and the borrow is closed at it.
--- All that the proof knows of `next` is that it meets its contract.
+-- `rng::next_u64_mut` meets its contract: a walk of its MIR, by hand. The borrow is opened, the record is copied out and passed to `next_u64` by value; the record in the draw is stored back whole, and the borrow is closed at it.
+-- All that the proof knows of `next_u64` is that it meets its contract.
 -- Assumes nothing.
 use mathlib.Core.Path.{_≡_, refl, ap, subst}
 use Prim.Native.Nat.{ℕ, _<_, _^_}
@@ -41,6 +41,7 @@ use denote.Triple.Walked.{says, Stays, stay-ref, walkOf, goes-ref, Walks, ends-a
 use Rattle.rng.specs.declared.Rng.{Rng}
 use Rattle.rng.specs.declared.Draw.{Draw}
 use Rattle.rng.specs.Xoshiro.{drawOf}
+use Rattle.rng.proofs.Values.{rng-val, draw-val}
 use Rattle.rng.proofs.Rng as T
 use Rattle.rng.proofs.Rng.Laws as T′
 use Rattle.rng.proofs.Draw as D
@@ -60,13 +61,7 @@ Arg = RefT Rng × Unit {0}
 abbrev stayed : Stays (next-u64-mut.ended .signature .params) (next-u64-mut.ended .kept)
 stayed = (stay-ref (0 ∷ []) tt (plain (λ _. T.the-row)), tt)
 
-abbrev rng-val : Rng → Val
-rng-val = LL.val T.the-type T′.the-laws
-
-abbrev draw-val : Draw → Val
-draw-val = LL.val D.the-type D′.the-laws
-
--- what `next` ensures: d is the draw of h
+-- what `next_u64` ensures: d is the draw of h
 abbrev Drawn : Rng → Draw → Type 0
 Drawn h d = d ≡ drawOf h
 
