@@ -28,6 +28,9 @@ pub fn print() {
     for row in [
         root_throughput("sqrt, normal, throughput", || source.normal(-1022..=1023)),
         root_latency(&mut source),
+        root_throughput("sqrt, within 16 steps of 1, throughput", || {
+            f64::from_bits(1f64.to_bits() - 16 + source.below(33))
+        }),
         root_throughput("sqrt, subnormal, throughput", || source.subnormal()),
         product(&mut source),
         stream(&mut source),
