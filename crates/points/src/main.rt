@@ -1,7 +1,8 @@
 // The published vectors of the generators, and the worked examples that no theorem covers: each is
 // run, printed beside a label, and compared. Standard output is held to the stored one as well.
 
-// What splitmix64 gives from the states 0 and 1234567, and xoshiro256++ from 1, 2, 3, 4.
+// What splitmix64 gives from the states 0 and 1234567, and xoshiro256++ from 1, 2, 3, 4; where they
+// come from is in docs/DECISIONS.md.
 const SPLITMIX_0: [u64; 5] = [
     16294208416658607535,
     7960286522194355700,
