@@ -17,11 +17,14 @@ squares a b = simp (mul-assoc, mul-comm, mul-left-comm) refl
 pub sq-mono : {a b : ℕ} → a ≤ b → a * a ≤ b * b
 sq-mono h = mul-le-mul h h
 
-pub sq-lt : {a b : ℕ} → a < b → a * a < b * b
-sq-lt {a} {b} l = lt-of-le-of-lt (mul-le-mul-left a (le-of-lt l)) (mul-lt-mul-of-pos-right l (pos-of a b l))
+pub product-lt : (a b m n : ℕ) → a < m → b < n → a * b < m * n
+product-lt a b m n h k = lt-of-le-of-lt (mul-le-mul-left a (le-of-lt k)) (mul-lt-mul-of-pos-right h (pos-of b n k))
   where
-    pos-of : (a b : ℕ) → a < b → 0 < b
-    pos-of a b l = omega arith
+    pos-of : (b n : ℕ) → b < n → 0 < n
+    pos-of b n k = omega arith
+
+pub sq-lt : {a b : ℕ} → a < b → a * a < b * b
+sq-lt {a} {b} l = product-lt a a b b l l
 
 pub sq-lt-back : (a b : ℕ) → a * a < b * b → a < b
 sq-lt-back a b h = lt-of-not-le (λ (g : b ≤ a). not-le-of-lt h (sq-mono g))

@@ -15,8 +15,8 @@ pub bits-of : (b m g q : ℕ) → PartsOf b m g → Near (m * 2 ^ (g % 2) * 2 ^ 
     → (ofBits binary64 ((g / 2 - 26) * 2 ^ 52 + q) ≡ sqrtUnits (unitsBits b)) × ((g / 2 - 26) * 2 ^ 52 + q < 2047 * 2 ^ 52)
 bits-of b m g q p n lo hi =
     let i = scaled-in m g (p .low) (p .high) in
-    let near = p .least in
-    let far = p .most in (
+    let least = p .least in
+    let most = p .most in (
       written q (g / 2 - 26) lo hi (omega arith)
           ∙ ap (λ (k : ℕ). odd 53 false q k 1074) (step g (p .least))
           ∙ sym (sqrtUnits-at (unitsBits b) (m * 2 ^ (g % 2)) (g / 2 - 27) q (i .0) (omega arith) (p .same ∙ scaled-same m g (p .least)) (omega arith) n),

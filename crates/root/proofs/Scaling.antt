@@ -62,6 +62,10 @@ halved b Q (suc p) P r n =
     plus : (p : ℕ) → suc p ≡ p + 1
     plus p = omega arith
 
+-- the code roots a * 2 ^ 54, which is that for b = a * 2 ^ 52
+four-times : (a : ℕ) → a * 2 ^ 54 ≡ 4 * (a * 2 ^ 52)
+four-times a = omega arith
+
 -- ---- the bounds of the root of a number of 107 or 108 digits
 
 pub root-bounds : (a Q : ℕ) → 2 ^ 52 ≤ a → a < 2 ^ 54 → IsRoot (a * 2 ^ 54) Q → (2 ^ 53 ≤ Q) × (Q < 2 ^ 54)
@@ -96,16 +100,13 @@ sqrtUnits-at n a h q lo hi e P near =
     sqrtUnits-is n
     ∙ ap (λ (k : ℕ). odd 53 false ((R / 2 ^ k + 1) / 2) (size R - 53) 1074) k1
     ∙ ap (λ (k : ℕ). odd 53 false ((R / 2 ^ h + 1) / 2) k 1074) k2
-    ∙ ap (λ (x : ℕ). odd 53 false x (h + 1) 1074) (halved (a * 2 ^ 52) (R / 2 ^ h) q P (subst (λ (x : ℕ). IsRoot x (R / 2 ^ h)) (four a) is) near)
+    ∙ ap (λ (x : ℕ). odd 53 false x (h + 1) 1074) (halved (a * 2 ^ 52) (R / 2 ^ h) q P (subst (λ (x : ℕ). IsRoot x (R / 2 ^ h)) (four-times a) is) near)
   where
     minus54 : (z h : ℕ) → z ≡ suc (53 + h) → z - 54 ≡ h
     minus54 z h e = omega arith
 
     minus53 : (z h : ℕ) → z ≡ suc (53 + h) → z - 53 ≡ h + 1
     minus53 z h e = omega arith
-
-    four : (a : ℕ) → a * 2 ^ 54 ≡ 4 * (a * 2 ^ 52)
-    four a = omega arith
 
 -- ---- the nearest whole number is half of the root of four times as much, rounded up
 
@@ -145,13 +146,10 @@ pub nearest-is : (a Q : ℕ) → 2 ^ 52 ≤ a → a < 2 ^ 54 - 1 → IsRoot (a *
 nearest-is a Q lo hi h =
     let b = root-bounds a Q lo (omega arith) h in
     let l : Q < 2 ^ 54 - 1 = sq-lt-back Q (2 ^ 54 - 1) (lt-of-le-of-lt (h .0) (room a hi)) in
-    (near-half (a * 2 ^ 52) Q (omega arith) (subst (λ (x : ℕ). IsRoot x Q) (four a) h), omega arith, omega arith)
+    (near-half (a * 2 ^ 52) Q (omega arith) (subst (λ (x : ℕ). IsRoot x Q) (four-times a) h), omega arith, omega arith)
   where
     room : (a : ℕ) → a < 2 ^ 54 - 1 → a * 2 ^ 54 < (2 ^ 54 - 1) * (2 ^ 54 - 1)
     room a h = omega arith
-
-    four : (a : ℕ) → a * 2 ^ 54 ≡ 4 * (a * 2 ^ 52)
-    four a = omega arith
 
 -- ---- what `root_bits` takes the root of
 
