@@ -1,13 +1,20 @@
--- Rows met and rows passed; what an answer says.
+-- Rows met and rows passed; what judges and answers say.
 use Prim.Native.Nat.{ℕ, zero, suc}
 use mathlib.Core.Bool.{Bool, true, false}
-use mathlib.Core.List.{List, _∷_}
-use mathlib.Core.Path.{_≡_, refl}
+use mathlib.Core.List.{List, [], _∷_}
+use mathlib.Core.Path.{_≡_, refl, sym}
+use native.Mathlib.Omega.{arith}
 use lib.Ieee.{Float}
 use Rattle.rows.specs.declared.Number.{Number}
 use Rattle.rows.specs.declared.Count.{Count}
-use Rattle.rows.specs.Rows.{firstRow, ifAccepted}
+use Rattle.rows.specs.Rows.{firstRow, ifAccepted, finally, Judged}
 use Rattle.rows.specs.Answers.{refusalIn, valueIn, numberOf, IsNumber, refusalOf, countIn, countOf, IsCount}
+
+-- ## the first row
+
+pub no-row : firstRow [] ≡ 0
+unfolding firstRow
+no-row = refl
 
 pub row-holds : {holds : Bool} (row : ℕ) (rows : List (Bool × ℕ)) → holds ≡ true → firstRow ((holds, row) ∷ rows) ≡ row
 unfolding firstRow
@@ -16,6 +23,26 @@ row-holds row rows h = rw h
 pub row-passes : {holds : Bool} (row : ℕ) (rows : List (Bool × ℕ)) → holds ≡ false → firstRow ((holds, row) ∷ rows) ≡ firstRow rows
 unfolding firstRow
 row-passes row rows h = rw h
+
+pub finally-refused : (r : ℕ) (last : Bool × ℕ) → (r ≡ 0 → ⊥) → finally r last ≡ r
+unfolding finally ifAccepted
+finally-refused zero last ne = absurd (ne refl)
+finally-refused (suc r) last ne = refl
+
+pub finally-accepted : {r : ℕ} (last : Bool × ℕ) → r ≡ 0 → finally r last ≡ firstRow (last ∷ [])
+unfolding finally ifAccepted
+finally-accepted last e = rw e
+
+-- ## judges
+
+module _ {rows : List (Bool × ℕ)} {Facts : Type 0} where
+  pub refuses : (r : ℕ) → firstRow rows ≡ suc r → Judged rows Facts (suc r)
+  refuses r e = record { row = sym e; accepted = λ h. absurd (omega arith) }
+
+  pub accepts : firstRow rows ≡ 0 → Facts → Judged rows Facts 0
+  accepts e facts = record { row = sym e; accepted = λ h. facts }
+
+-- ## answers that are an enum
 
 pub is-number : (row : ℕ) (x : Float) {r : Number} → r ≡ numberOf row x → IsNumber row x r
 unfolding refusalIn valueIn numberOf ifAccepted
@@ -26,3 +53,24 @@ pub is-count : (row n : ℕ) {r : Count} → r ≡ countOf row n → IsCount row
 unfolding refusalOf countIn countOf ifAccepted
 is-count zero n e = record { refusal = rw e; value = rw e; case = e }
 is-count (suc k) n e = record { refusal = rw e; value = rw e; case = e }
+
+module _ {r row : ℕ} (same : r ≡ row) where
+  pub count-refused : (n : ℕ) → (r ≡ 0 → ⊥) → IsCount row n (Count.Refused r)
+  count-refused n ne = is-count row n (go r same ne)
+    where
+      go : (k : ℕ) → k ≡ row → (k ≡ 0 → ⊥) → Count.Refused k ≡ countOf row n
+      go zero e ne = absurd (ne refl)
+      go (suc k) e ne = rw (← e) (unfold countOf in refl)
+
+  pub count-accepted : {m n : ℕ} → r ≡ 0 → m ≡ n → IsCount row n (Count.Value m)
+  count-accepted {m} {n} e h = is-count row n (rw (← same, e, h) (unfold countOf in refl))
+
+  pub number-refused : (x : Float) → (r ≡ 0 → ⊥) → IsNumber row x (Number.Refused r)
+  number-refused x ne = is-number row x (go r same ne)
+    where
+      go : (k : ℕ) → k ≡ row → (k ≡ 0 → ⊥) → Number.Refused k ≡ numberOf row x
+      go zero e ne = absurd (ne refl)
+      go (suc k) e ne = rw (← e) (unfold numberOf in refl)
+
+  pub number-accepted : {x y : Float} → r ≡ 0 → y ≡ x → IsNumber row x (Number.Value y)
+  number-accepted {x} {y} e h = is-number row x (rw (← same, e, h) (unfold numberOf in refl))

@@ -2,6 +2,7 @@
 use Prim.Native.Nat.{ℕ, zero, suc}
 use mathlib.Core.Bool.{Bool, cond}
 use mathlib.Core.List.{List, [], _∷_}
+use mathlib.Core.Path.{_≡_}
 
 -- situations with their numbers; 0 where none holds
 unfoldable pub firstRow : List (Bool × ℕ) → ℕ
@@ -12,3 +13,12 @@ firstRow (row ∷ rows) = cond (row .0) (row .1) (firstRow rows)
 unfoldable pub ifAccepted : {A : Type 0} → ℕ → A → A → A
 ifAccepted zero accepted refused = accepted
 ifAccepted (suc r) accepted refused = refused
+
+-- a row that is tried after the others, whatever its number
+unfoldable pub finally : ℕ → Bool × ℕ → ℕ
+finally r last = ifAccepted r (firstRow (last ∷ [])) r
+
+-- the answer of a judge: the first row, and what holds of the inputs where there is none
+pub record Judged (rows : List (Bool × ℕ)) (Facts : Type 0) (r : ℕ) : Type 0 where
+  pub row : r ≡ firstRow rows
+  pub accepted : r ≡ 0 → Facts

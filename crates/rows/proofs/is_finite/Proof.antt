@@ -1,5 +1,4 @@
 use Rattle.rows.proofs.Finite.{finite-true, finite-false}
-use borrow.Author.Needs.{needs}
 use Rattle.rows.proofs.is_finite.Statement.{statement}
 use Rattle.rows.proofs.is_finite.Tie as tie
 

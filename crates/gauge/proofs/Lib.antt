@@ -1,0 +1,5 @@
+-- Laws for callers: `Locality` says which links a staple reads. The others serve the functions' proofs.
+pub mod Fits
+pub mod Around
+pub mod TimeLine
+pub mod Unsound

@@ -1,0 +1,40 @@
+use borrow.Author.Needs.{needs}
+use Prim.Native.Nat.{_-_, _≤_}
+use mathlib.Core.Path.{_≡_, refl}
+use native.Mathlib.Omega.{arith}
+use Rattle.loops.specs.Loops.{foldTo}
+use Rattle.loops.proofs.Laws.{fold-none, fold-next, fold-done}
+use Rattle.mat.specs.Complex.{cadd, cmul, conjOf, czero}
+use Rattle.mat.specs.Matrix.{at}
+use Rattle.mat.specs.Product.{mulOf, rowRow}
+use Rattle.mat.proofs.Entries.{mul-at}
+use Rattle.links.specs.Store.{matrixAt}
+use Rattle.gauge.proofs.plaquettes.diagonal.Statement.{statement}
+use Rattle.gauge.proofs.plaquettes.diagonal.Tie as tie
+
+abbrev Inv-loop : tie.InvT-loop
+Inv-loop links a b c e i s₀ k₀ s k = (k ≤ 3) × (s ≡ foldTo cadd czero (λ k. cmul (at (mulOf (matrixAt links a) (matrixAt links b)) i k) (conjOf (at (mulOf (matrixAt links c) (matrixAt links e)) i k))) k)
+
+abbrev μ-loop : tie.MeasureT-loop
+μ-loop links a b c e i s₀ k₀ s k = 3 - k
+
+loop-holds : tie.Need-loop-holds Inv-loop μ-loop
+loop-holds c = (omega arith, fold-none _ _ _)
+
+mul-entry-at-requires : tie.Need-mul-entry-at-requires Inv-loop μ-loop
+mul-entry-at-requires c κs = let q = c .before .before .before .pre in (q .0, q .2, c .loop-test .taken)
+
+mul-entry-at-requires-2 : tie.Need-mul-entry-at-requires-2 Inv-loop μ-loop
+mul-entry-at-requires-2 c κs = let q = c .before .before .before .before .pre in (q .1, q .2, c .before .loop-test .taken)
+
+loop-again : tie.Need-loop-again Inv-loop μ-loop
+loop-again c =
+    let q = c .before .before .before .before .before .before .before .before .pre in
+    let t = c .before .before .before .before .before .loop-test .taken in
+    (omega arith, fold-next _ _ _ _ (c .before .before .before .before .before .before .loop .inv .1) (rw (c .before .mul .ensures, c .before .before .conj .ensures, c .before .before .before .mul-entry-at2 .ensures, c .before .before .before .before .mul-entry-at .ensures, mul-at _ _ _ _ (q .2) t, mul-at _ _ _ _ (q .2) t)) (c .add .ensures))
+
+returns : tie.Need-returns Inv-loop μ-loop
+returns c = rw (fold-done _ _ _ {m = c .before .loop .k} {n = 3} (omega arith) (c .before .loop .inv .1)) (unfold rowRow in refl)
+
+pub diagonal-spec : {M : Type 1} → statement M
+diagonal-spec = tie.close (tie.spec Inv-loop μ-loop loop-holds mul-entry-at-requires mul-entry-at-requires-2 (λ c κs. search needs) (λ c κs. search needs) (λ c κs. search needs) (λ c. search needs) (λ c. search needs) loop-again returns)

@@ -1,0 +1,101 @@
+use mat::C64;
+use mat::Su3;
+ghost use mathlib.Core.Path.{_≡_};
+ghost use Prim.Native.Nat.{_<_};
+ghost use Rattle.mat.specs.Matrix.{reTr};
+ghost use Rattle.mat.specs.Product.{rowRow, mulOf};
+ghost use Rattle.geometry.specs.Radix.{volume};
+ghost use Rattle.geometry.specs.Steps.{nearOf};
+ghost use Rattle.links.specs.Field.{fieldOf};
+ghost use Rattle.links.specs.Store.{matrixAt, Two};
+ghost use Rattle.gauge.specs.Field.{linkOf, Holds, Plane};
+ghost use Rattle.gauge.specs.Plaquette.{plaquetteAt, plaquetteOf, planesSum, averageOf, actionOf, Corners};
+
+// The plaquette in the plane of mu and nu.
+pub fn plaquette(links: &[f64], d: [usize; 4], n: usize, mu: usize, nu: usize) -> Su3
+    requires { ⌜ Plane d (now links) n mu nu ⌝ }
+    ensures { λ r. ⌜ r ≡ plaquetteOf d (linkOf d (now (links .entry))) n mu nu ⌝ }
+{
+    let v = geometry::sites(d);
+    let f = geometry::fwd(d, n, mu);
+    let g = geometry::fwd(d, n, nu);
+    let a = links::mul_at(links, links::place(v, mu, n), links::place(v, nu, f));
+    let b = links::mul_at(links, links::place(v, nu, n), links::place(v, mu, g));
+    a.mul_dag(b)
+}
+
+// The real part of the i-th entry on the diagonal of a·b·(c·e)†, for matrices at four places.
+fn diagonal(links: &[f64], a: usize, b: usize, c: usize, e: usize, i: usize) -> f64
+    requires { ⌜ Two (now links) a b × Two (now links) c e × (i < 3) ⌝ }
+    ensures { λ r. ⌜ r ≡ rowRow (mulOf (matrixAt (now (links .entry)) a) (matrixAt (now (links .entry)) b)) (mulOf (matrixAt (now (links .entry)) c) (matrixAt (now (links .entry)) e)) i i .re ⌝ }
+{
+    let mut s = C64::ZERO;
+    for k in 0..3 {
+        s = s.add(links::mul_entry_at(links, a, b, i, k).mul(links::mul_entry_at(
+            links,
+            c,
+            e,
+            i,
+            k,
+        ).conj()));
+    }
+    s.re
+}
+
+// Re Tr of a plaquette, of which only the diagonal is worked out: f is n + mu, g is n + nu.
+fn trace(links: &[f64], v: usize, mu: usize, nu: usize, n: usize, f: usize, g: usize) -> f64
+    requires { ⌜ Corners (now links) v mu nu n f g ⌝ }
+    ensures { λ r. ⌜ r ≡ reTr (plaquetteAt (fieldOf v (now (links .entry))) mu nu n f g) ⌝ }
+{
+    let a = links::place(v, mu, n);
+    let b = links::place(v, nu, f);
+    let c = links::place(v, nu, n);
+    let e = links::place(v, mu, g);
+    diagonal(links, a, b, c, e, 0) + diagonal(links, a, b, c, e, 1) + diagonal(links, a, b, c, e, 2)
+}
+
+// The sum of the six traces at a site; up has the next sites along the axes.
+fn planes_sum(links: &[f64], d: [usize; 4], v: usize, n: usize, up: [usize; 4]) -> f64
+    requires { ⌜ Holds d (now links) × (v ≡ volume d) × (n < v) × (up ≡ nearOf d n .up) ⌝ }
+    ensures { λ r. ⌜ r ≡ planesSum d (linkOf d (now (links .entry))) n ⌝ }
+{
+    let t = up[0];
+    let x = up[1];
+    let y = up[2];
+    let z = up[3];
+    0.0
+        + trace(links, v, 0, 1, n, t, x)
+        + trace(links, v, 0, 2, n, t, y)
+        + trace(links, v, 0, 3, n, t, z)
+        + trace(links, v, 1, 2, n, x, y)
+        + trace(links, v, 1, 3, n, x, z)
+        + trace(links, v, 2, 3, n, y, z)
+}
+
+// ⟨Re Tr U_P⟩ / 3 over all sites and planes. The coordinates are carried along: no division.
+pub fn average(links: &[f64], d: [usize; 4]) -> f64
+    requires { ⌜ Holds d (now links) ⌝ }
+    ensures { λ r. ⌜ r ≡ averageOf d (linkOf d (now (links .entry))) ⌝ }
+{
+    let v = geometry::sites(d);
+    let s = geometry::strides(d);
+    let mut c = [0usize; 4];
+    let mut sum = 0.0;
+    for n in 0..v {
+        let near = geometry::neighbours_at(d, s, c, n);
+        let up = near.up;
+        sum += planes_sum(links, d, v, n, up);
+        let next = geometry::next(d, c);
+        c = next;
+    }
+    sum / ((v as u32) as f64 * 6.0 * 3.0)
+}
+
+// The Wilson action, by the average.
+pub fn action(links: &[f64], d: [usize; 4], beta: f64) -> f64
+    requires { ⌜ Holds d (now links) ⌝ }
+    ensures { λ r. ⌜ r ≡ actionOf d (linkOf d (now (links .entry))) beta ⌝ }
+{
+    let n = (geometry::sites(d) as u32) as f64;
+    beta * 6.0 * n * (1.0 - average(links, d))
+}

@@ -1,0 +1,57 @@
+use mat::Su3;
+ghost use mathlib.Core.Path.{_≡_};
+ghost use Rattle.mat.specs.Matrix.{addOf};
+ghost use Rattle.links.specs.Field.{fieldOf};
+ghost use Rattle.gauge.specs.Field.{linkOf, Link};
+ghost use Rattle.gauge.specs.Staple.{upperAt, lowerAt, stapleOf, Ring};
+
+// a, and then the two staples in the plane of mu and nu. The sites: n, f = n + mu, u = n + nu,
+// b = n - nu, s = n + mu - nu.
+fn add_staples(
+    links: &[f64],
+    v: usize,
+    mu: usize,
+    nu: usize,
+    n: usize,
+    f: usize,
+    u: usize,
+    b: usize,
+    s: usize,
+    a: Su3,
+) -> Su3
+    requires { ⌜ Ring (now links) v mu nu n f u b s ⌝ }
+    ensures { λ r. ⌜ r ≡ addOf (addOf a (upperAt (fieldOf v (now (links .entry))) mu nu n f u)) (lowerAt (fieldOf v (now (links .entry))) mu nu b s) ⌝ }
+{
+    let upper = links::mul_dag_by(
+        links::mul_dag_at(links, links::place(v, nu, f), links::place(v, mu, u)),
+        links,
+        links::place(v, nu, n),
+    );
+    let lower = links::mul_by(
+        links::dag_mul_dag_at(links, links::place(v, nu, s), links::place(v, mu, b)),
+        links,
+        links::place(v, nu, b),
+    );
+    a.add(upper).add(lower)
+}
+
+// The sum of the six staples around a link.
+pub fn staple(links: &[f64], d: [usize; 4], n: usize, mu: usize) -> Su3
+    requires { ⌜ Link d (now links) n mu ⌝ }
+    ensures { λ r. ⌜ r ≡ stapleOf d (linkOf d (now (links .entry))) n mu ⌝ }
+{
+    let v = geometry::sites(d);
+    let near = geometry::neighbours(d, n);
+    let up = near.up;
+    let down = near.down;
+    let f = up[mu];
+    let mut a = Su3::ZERO;
+    for nu in 0..4 {
+        if nu != mu {
+            let u = up[nu];
+            let b = down[nu];
+            a = add_staples(links, v, mu, nu, n, f, u, b, f + b - n, a);
+        }
+    }
+    a
+}

@@ -1,0 +1,23 @@
+-- The claims of specs/Claims.antt.
+use native.Mathlib.Omega.{arith}
+use Rattle.geometry.specs.Claims.{FitsIsShape, CoordsInverse, NeighboursInverse, ParityFlips, SitesInOrder}
+use Rattle.geometry.proofs.Shape.{fits-shape, shape-fits}
+use Rattle.geometry.proofs.Radix.{coords-within, index-below, coords-index, index-coords}
+use Rattle.geometry.proofs.Steps.{moved-flips}
+use Rattle.geometry.proofs.Neighbour.{bwd-fwd, fwd-bwd}
+use Rattle.geometry.proofs.Order.{count-sites, site-at}
+
+pub fits-is-shape : FitsIsShape
+fits-is-shape = record { passes = shape-fits; passed = fits-shape }
+
+pub coords-inverse : CoordsInverse
+coords-inverse = record { within = λ d n h. coords-within d n (omega arith); index-coords = index-coords; below = index-below; coords-index = coords-index }
+
+pub neighbours-inverse : NeighboursInverse
+neighbours-inverse = record { bwd-fwd = bwd-fwd; fwd-bwd = fwd-bwd }
+
+pub parity-flips : ParityFlips
+parity-flips d n mu k below axis = moved-flips d (omega arith) n mu axis k
+
+pub sites-in-order : SitesInOrder
+sites-in-order = record { count = count-sites; nth = site-at }

@@ -1,0 +1,32 @@
+-- The entries of a matrix that is given as a table.
+use Prim.Native.Nat.{ℕ, zero, suc, _<_}
+use mathlib.Core.Path.{_≡_, refl}
+use native.Mathlib.Omega.{arith}
+use Rattle.mat.specs.declared.C64.{C64}
+use Rattle.mat.specs.declared.Su3.{Su3}
+use Rattle.mat.specs.Complex.{conjOf}
+use Rattle.mat.specs.Matrix.{at, tabulate, daggerOf}
+use Rattle.mat.specs.Product.{rowCol, mulOf}
+
+pub table-at : (f : ℕ → ℕ → C64) (i j : ℕ) → i < 3 → j < 3 → f i j ≡ at (tabulate f) i j
+table-at f zero zero h g = refl
+table-at f zero (suc zero) h g = refl
+table-at f zero (suc (suc zero)) h g = refl
+table-at f zero (suc (suc (suc j))) h g = absurd (omega arith)
+table-at f (suc zero) zero h g = refl
+table-at f (suc zero) (suc zero) h g = refl
+table-at f (suc zero) (suc (suc zero)) h g = refl
+table-at f (suc zero) (suc (suc (suc j))) h g = absurd (omega arith)
+table-at f (suc (suc zero)) zero h g = refl
+table-at f (suc (suc zero)) (suc zero) h g = refl
+table-at f (suc (suc zero)) (suc (suc zero)) h g = refl
+table-at f (suc (suc zero)) (suc (suc (suc j))) h g = absurd (omega arith)
+table-at f (suc (suc (suc i))) j h g = absurd (omega arith)
+
+pub dagger-at : (a : Su3) (i j : ℕ) → i < 3 → j < 3 → conjOf (at a j i) ≡ at (daggerOf a) i j
+unfolding daggerOf
+dagger-at a i j h g = table-at (λ i j. conjOf (at a j i)) i j h g
+
+pub mul-at : (a b : Su3) (i j : ℕ) → i < 3 → j < 3 → rowCol a b i j ≡ at (mulOf a b) i j
+unfolding mulOf
+mul-at a b i j h g = table-at (λ i j. rowCol a b i j) i j h g

@@ -1,0 +1,11 @@
+use Rattle.mat.specs.Row.{unitRow}
+use borrow.Author.Needs.{needs}
+use Rattle.mat.proofs.Row.unit.Statement.{statement}
+use Rattle.mat.proofs.Row.unit.Tie as tie
+
+returns : tie.Need-returns
+unfolding unitRow
+returns c = rw (c .scale .ensures, c .before .sqrt .ensures, c .before .before .norm-sqr .ensures)
+
+pub unit-spec : {M : Type 1} → statement M
+unit-spec = tie.close (tie.spec (λ c κs. search needs) (λ c κs. search needs) (λ c κs. search needs) returns)

@@ -1,0 +1,88 @@
+ghost use mathlib.Core.Path.{_≡_};
+ghost use Rattle.mat.specs.Complex.{complexOf, conjOf, normSqr, cscale, cadd, csub, cmul, cneg, finiteEntry};
+use crate::C64;
+
+impl C64 {
+    pub const ZERO: Self = Self { re: 0.0, im: 0.0 };
+
+    pub const ONE: Self = Self { re: 1.0, im: 0.0 };
+
+    pub const I: Self = Self { re: 0.0, im: 1.0 };
+
+    pub fn new(re: f64, im: f64) -> Self
+        ensures { λ r. ⌜ r ≡ complexOf re im ⌝ }
+    {
+        Self { re, im }
+    }
+
+    pub fn conj(self) -> Self
+        ensures { λ r. ⌜ r ≡ conjOf self ⌝ }
+    {
+        Self {
+            re: self.re,
+            im: -self.im,
+        }
+    }
+
+    pub fn norm_sqr(self) -> f64
+        ensures { λ r. ⌜ r ≡ normSqr self ⌝ }
+    {
+        self.re * self.re + self.im * self.im
+    }
+
+    pub fn scale(self, s: f64) -> Self
+        ensures { λ r. ⌜ r ≡ cscale self s ⌝ }
+    {
+        Self {
+            re: self.re * s,
+            im: self.im * s,
+        }
+    }
+
+    pub fn add(self, o: C64) -> Self
+        ensures { λ r. ⌜ r ≡ cadd self o ⌝ }
+    {
+        Self {
+            re: self.re + o.re,
+            im: self.im + o.im,
+        }
+    }
+
+    pub fn sub(self, o: C64) -> Self
+        ensures { λ r. ⌜ r ≡ csub self o ⌝ }
+    {
+        Self {
+            re: self.re - o.re,
+            im: self.im - o.im,
+        }
+    }
+
+    pub fn mul(self, o: C64) -> Self
+        ensures { λ r. ⌜ r ≡ cmul self o ⌝ }
+    {
+        Self {
+            re: self.re * o.re - self.im * o.im,
+            im: self.re * o.im + self.im * o.re,
+        }
+    }
+
+    pub fn neg(self) -> Self
+        ensures { λ r. ⌜ r ≡ cneg self ⌝ }
+    {
+        Self {
+            re: -self.re,
+            im: -self.im,
+        }
+    }
+
+    // Neither part is an infinity or a NaN.
+    pub fn is_finite(self) -> bool
+        ensures { λ r. ⌜ r ≡ finiteEntry self ⌝ }
+    {
+        if rows::is_finite(self.re) {
+            rows::is_finite(self.im)
+        } else {
+            false
+        }
+    }
+}

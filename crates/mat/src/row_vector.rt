@@ -1,0 +1,63 @@
+ghost use mathlib.Core.Path.{_≡_};
+ghost use Rattle.mat.specs.Row.{conjDot, rowScale, rowNormSqr, rowSubMul, unitRow, minorConj, crossConj};
+use crate::C64;
+use crate::Row;
+
+fn minor_conj(a: C64, b: C64, c: C64, d: C64) -> C64
+    ensures { λ r. ⌜ r ≡ minorConj a b c d ⌝ }
+{
+    a.mul(b).sub(c.mul(d)).conj()
+}
+
+impl Row {
+    pub fn conj_dot(self, o: Row) -> C64
+        ensures { λ r. ⌜ r ≡ conjDot self o ⌝ }
+    {
+        C64::ZERO
+            .add(self.c0.conj().mul(o.c0))
+            .add(self.c1.conj().mul(o.c1))
+            .add(self.c2.conj().mul(o.c2))
+    }
+
+    pub fn scale(self, s: f64) -> Self
+        ensures { λ r. ⌜ r ≡ rowScale self s ⌝ }
+    {
+        Self {
+            c0: self.c0.scale(s),
+            c1: self.c1.scale(s),
+            c2: self.c2.scale(s),
+        }
+    }
+
+    pub fn norm_sqr(self) -> f64
+        ensures { λ r. ⌜ r ≡ rowNormSqr self ⌝ }
+    {
+        0.0 + self.c0.norm_sqr() + self.c1.norm_sqr() + self.c2.norm_sqr()
+    }
+
+    pub fn sub_mul(self, d: C64, o: Row) -> Self
+        ensures { λ r. ⌜ r ≡ rowSubMul self d o ⌝ }
+    {
+        Self {
+            c0: self.c0.sub(d.mul(o.c0)),
+            c1: self.c1.sub(d.mul(o.c1)),
+            c2: self.c2.sub(d.mul(o.c2)),
+        }
+    }
+
+    pub fn unit(self) -> Self
+        ensures { λ r. ⌜ r ≡ unitRow self ⌝ }
+    {
+        self.scale(1.0 / root::sqrt(self.norm_sqr()))
+    }
+
+    pub fn cross_conj(self, o: Row) -> Self
+        ensures { λ r. ⌜ r ≡ crossConj self o ⌝ }
+    {
+        Self {
+            c0: minor_conj(self.c1, o.c2, self.c2, o.c1),
+            c1: minor_conj(self.c2, o.c0, self.c0, o.c2),
+            c2: minor_conj(self.c0, o.c1, self.c1, o.c0),
+        }
+    }
+}
