@@ -1,16 +1,14 @@
 -- The test of extents says what Shape says, and what follows for a field's extents.
-use Prim.Native.Nat.{ℕ, zero, suc, _%_, _<_, _≤_}
-use mathlib.Core.Bool.{Bool, true, false, _&&_, and-eq-true-iff}
+use Prim.Native.Nat.{ℕ, suc, _%_, _<_, _≤_}
+use mathlib.Core.Bool.{true, _&&_, and-eq-true-iff}
 use mathlib.Core.List.{List, [], _∷_}
-use mathlib.Core.Path.{_≡_, refl, sym, _∙_}
+use mathlib.Core.Path.{_≡_, refl}
 use native.Mathlib.Nat.{mul-le-mul, mul-pos, le-refl}
-use native.Mathlib.Numerals.{add-one}
 use native.Mathlib.Omega.{arith}
 use lib.Dec.{leb, eqb}
 use lib.ListN.{length, getD}
 use borrow.Author.Tests.{leb-true, eqb-true, le-leb, eq-eqb}
-use Rattle.loops.specs.Loops.{allBelow}
-use Rattle.loops.proofs.Laws.{all-none, all-next, all-fails}
+use Rattle.loops.proofs.Laws.{all-each, each-all}
 use Rattle.geometry.specs.Radix.{volume}
 use Rattle.geometry.specs.Shape.{Extent, Shape, extentTest, fitsOf}
 
@@ -28,18 +26,6 @@ unfolding extentTest
 extent-passes e x = rw (le-leb 2 e (x .low), le-leb e 16 (x .high), eq-eqb (e % 2) 0 (x .even))
 
 -- ## all of them
-
-module _ (test : ℕ → Bool) where
-  all-each : (n k : ℕ) → k < n → allBelow test n ≡ true → test k ≡ true
-  all-each n k h a = go (test k) refl
-    where
-      go : (b : Bool) → test k ≡ b → b ≡ true
-      go true e = refl
-      go false e = sym (all-fails test n k h e) ∙ a
-
-  each-all : (n : ℕ) → ((k : ℕ) → k < n → test k ≡ true) → allBelow test n ≡ true
-  each-all zero h = all-none test
-  each-all (suc n) h = rw (add-one n) at (all-next test n (each-all n (λ k g. h k (omega arith))) (h n (omega arith)))
 
 pub fits-shape : (d : List ℕ) → length d ≡ 4 → fitsOf d ≡ true → Shape d
 unfolding fitsOf

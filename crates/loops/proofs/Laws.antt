@@ -2,7 +2,7 @@
 use Prim.Native.Nat.{ℕ, zero, suc, _+_, _<_, _≤_}
 use mathlib.Core.Bool.{Bool, true, false, _&&_}
 use mathlib.Core.List.{List}
-use mathlib.Core.Path.{_≡_, refl, ap, _∙_}
+use mathlib.Core.Path.{_≡_, refl, ap, sym, _∙_}
 use native.Mathlib.Decide.{decLt}
 use native.Mathlib.Numerals.{add-one}
 use native.Mathlib.Omega.{arith}
@@ -91,3 +91,14 @@ module _ (test : ℕ → Bool) where
       go : (k < n → test k ≡ false → allBelow test n ≡ false) → Dec (k < n) → allBelow test n && test n ≡ false
       go ih (yes g) = rw (ih g e)
       go ih (no g) = let p : n ≡ k = omega arith in ap (λ (j : ℕ). allBelow test n && test j) p ∙ rw e (and-false (allBelow test n))
+
+  pub all-each : (n k : ℕ) → k < n → allBelow test n ≡ true → test k ≡ true
+  all-each n k h a = go (test k) refl
+    where
+      go : (b : Bool) → test k ≡ b → b ≡ true
+      go true e = refl
+      go false e = sym (all-fails n k h e) ∙ a
+
+  pub each-all : (n : ℕ) → ((k : ℕ) → k < n → test k ≡ true) → allBelow test n ≡ true
+  each-all zero h = all-none
+  each-all (suc n) h = rw (add-one n) at (all-next n (each-all n (λ k g. h k (omega arith))) (h n (omega arith)))

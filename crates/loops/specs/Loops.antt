@@ -1,6 +1,6 @@
 -- What a counted loop leaves: a sum, a list filled place by place, a value stepped on, a test of all turns.
 use Prim.Native.Nat.{ℕ, zero, suc}
-use mathlib.Core.Bool.{Bool, true, false, _&&_}
+use mathlib.Core.Bool.{Bool, true, _&&_}
 use mathlib.Core.List.{List}
 use lib.ListN.{set}
 

@@ -33,6 +33,25 @@ pub finally-accepted : {r : ℕ} (last : Bool × ℕ) → r ≡ 0 → finally r 
 unfolding finally ifAccepted
 finally-accepted last e = rw e
 
+-- a row met before the last one, and the last one where none was
+module _ {r row : ℕ} (same : r ≡ row) (last : Bool × ℕ) where
+  pub first-row : (r ≡ 0 → ⊥) → r ≡ finally row last
+  first-row ne = rw (← same) (sym (finally-refused r last ne))
+
+  pub last-row : r ≡ 0 → firstRow (last ∷ []) ≡ finally row last
+  last-row e = rw (← same) (sym (finally-accepted last e))
+
+-- what is answered beside the refusal's number
+module _ {A : Type 0} (accepted refused : A) where
+  pub if-refused : (r : ℕ) → (r ≡ 0 → ⊥) → ifAccepted r accepted refused ≡ refused
+  unfolding ifAccepted
+  if-refused zero ne = absurd (ne refl)
+  if-refused (suc r) ne = refl
+
+  pub if-accepted : {r : ℕ} → r ≡ 0 → ifAccepted r accepted refused ≡ accepted
+  unfolding ifAccepted
+  if-accepted e = rw e
+
 -- ## judges
 
 module _ {rows : List (Bool × ℕ)} {Facts : Type 0} where

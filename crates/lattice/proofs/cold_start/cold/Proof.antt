@@ -1,0 +1,34 @@
+use mathlib.Core.Path.{refl, sym}
+use native.Mathlib.Omega.{arith}
+use Rattle.rows.proofs.Laws.{if-refused, if-accepted}
+use Rattle.geometry.proofs.Shape.{volume-high}
+use Rattle.lattice.specs.Cold.{coldAnswer, coldLinks}
+use borrow.Author.Needs.{needs}
+use Rattle.lattice.proofs.cold_start.cold.Statement.{statement}
+use Rattle.lattice.proofs.cold_start.cold.Tie as tie
+
+returns : tie.Need-returns
+unfolding coldAnswer
+returns c = let same = c .before .plan-row .ensures .row in record { answer = rw (← same, if-refused _ _ _ (c .if1 .taken)); links = rw (← same) (sym (if-refused _ _ _ (c .if1 .taken))) }
+
+sites-requires : tie.Need-sites-requires
+sites-requires c κs = c .before .before .plan-row .ensures .accepted (c .before .if1 .left) .0
+
+mul-freeze : tie.Need-mul-freeze
+mul-freeze c = let f = c .before .before .before .plan-row .ensures .accepted (c .before .before .if1 .left) in let high = volume-high _ (f .0) in rw (c .sites .ensures) (omega arith)
+
+freeze-requires : tie.Need-freeze-requires
+freeze-requires c κs = let f = c .before .before .before .plan-row .ensures .accepted (c .before .before .if1 .left) in let e = c .sites .ensures in omega (arith, f .1)
+
+returns-2 : tie.Need-returns-2
+unfolding coldAnswer coldLinks
+returns-2 c =
+    let same = c .before .before .before .before .before .before .plan-row .ensures .row in
+    let none = c .before .before .before .before .before .if1 .left in
+    record {
+      answer = rw (← same, none, if-accepted _ _ refl);
+      links = rw (← same, if-accepted _ _ none, c .before .before .freeze .ensures, c .before .before .before .sites .ensures);
+    }
+
+pub cold-spec : {M : Type 1} → statement M
+cold-spec = tie.close (tie.spec (λ c κs. search needs) returns sites-requires mul-freeze freeze-requires (λ c. search needs) returns-2)

@@ -1,0 +1,17 @@
+-- The link check: the unsound links' numbers, each once, in some order, at the front of the list. Their order is left open.
+use Prim.Native.Nat.{ℕ}
+use mathlib.Core.List.{List}
+use mathlib.Core.Path.{_≡_}
+use lib.Ieee.{Float}
+use lib.ListN.{length}
+use Rattle.rows.specs.declared.Count.{Count}
+use Rattle.rows.specs.Rows.{firstRow}
+use Rattle.rows.specs.Answers.{IsCount}
+use Rattle.gauge.specs.Field.{linkOf}
+use Rattle.gauge.specs.Sound.{unsoundLinks, Listed}
+use Rattle.lattice.specs.Rows.{checkRows}
+
+pub record CheckCall (d : List ℕ) (l : List Float) (old : List ℕ) (r : Count) (new : List ℕ) : Type 0 where
+  pub answer : IsCount (firstRow (checkRows d (length l) (length old))) (length (unsoundLinks d (linkOf d l))) r
+  pub listed : firstRow (checkRows d (length l) (length old)) ≡ 0 → Listed (unsoundLinks d (linkOf d l)) old (length (unsoundLinks d (linkOf d l))) new
+  pub kept : (firstRow (checkRows d (length l) (length old)) ≡ 0 → ⊥) → new ≡ old

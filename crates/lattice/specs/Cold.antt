@@ -1,0 +1,39 @@
+-- The cold start: every link is the identity.
+use Prim.Native.Nat.{ℕ, zero, suc, _*_, _<_}
+use mathlib.Core.List.{List, [], _∷_, _++_}
+use mathlib.Core.Path.{_≡_}
+use lib.Ieee.{Float}
+use lib.ListN.{length}
+use Rattle.rows.specs.Rows.{firstRow, ifAccepted}
+use Rattle.mat.specs.Rounded.{fzero}
+use Rattle.mat.specs.Matrix.{identityOf}
+use Rattle.links.specs.Store.{numbersOf}
+use Rattle.geometry.specs.Radix.{volume}
+use Rattle.gauge.specs.Field.{linkOf}
+use Rattle.lattice.specs.declared.Plan.{Plan}
+use Rattle.lattice.specs.declared.ColdAnswer.{ColdAnswer}
+use Rattle.lattice.specs.Rows.{planRows}
+
+-- the numbers of the identity, k times
+unfoldable pub identities : ℕ → List Float
+identities zero = []
+identities (suc k) = identities k ++ numbersOf identityOf
+
+-- the links of a cold field
+unfoldable pub coldLinks : List ℕ → List Float
+coldLinks d = identities (4 * volume d)
+
+abbrev pub noPlan : Plan
+noPlan = record { extents = 0 ∷ 0 ∷ 0 ∷ 0 ∷ []; coupling = fzero; seed = 0; pass = 0 }
+
+unfoldable pub coldAnswer : ℕ → List ℕ → Float → ℕ → ColdAnswer
+coldAnswer row d c seed = record { refusal = row; plan = ifAccepted row (record { extents = d; coupling = c; seed = seed; pass = 0 }) noPlan }
+
+-- the answer, and the list afterwards
+pub record ColdCall (d : List ℕ) (c : Float) (seed : ℕ) (old : List Float) (r : ColdAnswer) (new : List Float) : Type 0 where
+  pub answer : r ≡ coldAnswer (firstRow (planRows d c (length old))) d c seed
+  pub links : new ≡ ifAccepted (firstRow (planRows d c (length old))) (coldLinks d) old
+
+-- every link of the list is the identity
+abbrev pub EveryLinkIsIdentity : Type 0
+EveryLinkIsIdentity = (d : List ℕ) (mu n : ℕ) → mu < 4 → n < volume d → linkOf d (coldLinks d) mu n ≡ identityOf

@@ -1,0 +1,134 @@
+use crate::LoopAnswer;
+use crate::Plan;
+use crate::judges::field_row;
+use crate::judges::link_row;
+use crate::judges::plan_row;
+use crate::judges::plane_row;
+use mat::C64;
+use mat::MatrixAnswer;
+use mat::Su3;
+use rows::Number;
+ghost use mathlib.Core.Path.{_≡_};
+ghost use mathlib.Core.List.{[], _∷_};
+ghost use Rattle.rows.specs.Rows.{firstRow};
+ghost use Rattle.rows.specs.Answers.{numberOf};
+ghost use Rattle.mat.specs.Answers.{matrixAnswer};
+ghost use Rattle.lattice.specs.Situations.{badNumber, badPair, badMatrix};
+ghost use Rattle.lattice.specs.Answers.{loopAnswer, plaquetteCall, stapleCall, AverageCall, ActionCall, loopCall};
+
+// A matrix as an answer: row 10 where one of its numbers isn't finite.
+fn judged_matrix(u: Su3) -> MatrixAnswer
+    ensures { λ r. ⌜ r ≡ matrixAnswer (firstRow ((badMatrix u, 10) ∷ [])) u ⌝ }
+{
+    if !u.is_finite() {
+        return MatrixAnswer {
+            refusal: 10,
+            matrix: Su3::ZERO,
+        };
+    }
+    MatrixAnswer {
+        refusal: 0,
+        matrix: u,
+    }
+}
+
+// A number as an answer.
+fn judged_number(x: f64) -> Number
+    ensures { λ r. ⌜ r ≡ numberOf (firstRow ((badNumber x, 10) ∷ [])) x ⌝ }
+{
+    if !rows::is_finite(x) {
+        return Number::Refused(10);
+    }
+    Number::Value(x)
+}
+
+// A complex number as an answer.
+fn judged_pair(z: C64) -> LoopAnswer
+    ensures { λ r. ⌜ r ≡ loopAnswer (firstRow ((badPair z, 10) ∷ [])) z ⌝ }
+{
+    if !z.is_finite() {
+        return LoopAnswer {
+            refusal: 10,
+            re: 0.0,
+            im: 0.0,
+        };
+    }
+    LoopAnswer {
+        refusal: 0,
+        re: z.re,
+        im: z.im,
+    }
+}
+
+// The plaquette of two directions at a site.
+pub fn plaquette(
+    extents: [usize; 4],
+    site: usize,
+    mu: usize,
+    nu: usize,
+    links: &[f64],
+) -> MatrixAnswer
+    ensures { λ r. ⌜ r ≡ plaquetteCall extents site mu nu (now (links .entry)) ⌝ }
+{
+    let row = plane_row(extents, links.len(), site, mu, nu);
+    if row != 0 {
+        return MatrixAnswer {
+            refusal: row,
+            matrix: Su3::ZERO,
+        };
+    }
+    judged_matrix(gauge::plaquette(links, extents, site, mu, nu))
+}
+
+// The sum of the six staples around a link.
+pub fn staple(plan: Plan, site: usize, mu: usize, links: &[f64]) -> MatrixAnswer
+    ensures { λ r. ⌜ r ≡ stapleCall plan site mu (now (links .entry)) ⌝ }
+{
+    let d = plan.extents;
+    let row = link_row(d, plan.coupling, links.len(), site, mu);
+    if row != 0 {
+        return MatrixAnswer {
+            refusal: row,
+            matrix: Su3::ZERO,
+        };
+    }
+    judged_matrix(gauge::staple(links, d, site, mu))
+}
+
+// ⟨Re Tr U_P⟩ / 3, averaged over all sites and the six planes.
+pub fn average_plaquette(extents: [usize; 4], links: &[f64]) -> Number
+    ensures { λ r. ⌜ AverageCall extents (now (links .entry)) r ⌝ }
+{
+    let row = field_row(extents, links.len());
+    if row != 0 {
+        return Number::Refused(row);
+    }
+    judged_number(gauge::average(links, extents))
+}
+
+// The Wilson action β Σ (1 − Re Tr U_P / 3).
+pub fn action(plan: Plan, links: &[f64]) -> Number
+    ensures { λ r. ⌜ ActionCall plan (now (links .entry)) r ⌝ }
+{
+    let d = plan.extents;
+    let row = plan_row(d, plan.coupling, links.len());
+    if row != 0 {
+        return Number::Refused(row);
+    }
+    judged_number(gauge::action(links, d, plan.coupling))
+}
+
+// The Polyakov loop ⟨Tr Π U_0⟩ / 3, averaged over space.
+pub fn polyakov_loop(extents: [usize; 4], links: &[f64]) -> LoopAnswer
+    ensures { λ r. ⌜ r ≡ loopCall extents (now (links .entry)) ⌝ }
+{
+    let row = field_row(extents, links.len());
+    if row != 0 {
+        return LoopAnswer {
+            refusal: row,
+            re: 0.0,
+            im: 0.0,
+        };
+    }
+    judged_pair(gauge::polyakov_loop(links, extents))
+}
