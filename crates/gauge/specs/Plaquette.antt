@@ -6,10 +6,11 @@ use Rattle.loops.specs.Loops.{foldTo}
 use Rattle.mat.specs.declared.Su3.{Su3}
 use Rattle.mat.specs.Rounded.{_⊞_, _⊟_, _⊠_, fzero, fone, fthree}
 use Rattle.mat.specs.Matrix.{reTr}
-use Rattle.mat.specs.Product.{mulOf, mulDagOf}
+use Rattle.mat.specs.Product.{rowRow, mulOf, mulDagOf}
 use Rattle.mat.specs.Exponential.{asFloat}
 use Rattle.geometry.specs.Radix.{volume}
 use Rattle.geometry.specs.Steps.{fwdOf}
+use Rattle.links.specs.Store.{matrixAt}
 use Rattle.links.specs.Field.{Field, Sized}
 
 -- U_μ(n) U_ν(f) (U_ν(n) U_μ(g))†, where f is n+μ and g is n+ν
@@ -18,6 +19,10 @@ plaquetteAt U mu nu n f g = mulDagOf (mulOf (U mu n) (U nu f)) (mulOf (U nu n) (
 
 unfoldable pub plaquetteOf : List ℕ → Field → ℕ → ℕ → ℕ → Su3
 plaquetteOf d U n mu nu = plaquetteAt U mu nu n (fwdOf d n mu) (fwdOf d n nu)
+
+-- the real part of the i-th entry on the diagonal of a·b·(c·e)†, for matrices at four places of a list
+abbrev pub diagonalAt : List Float → ℕ → ℕ → ℕ → ℕ → ℕ → Float
+diagonalAt l a b c e i = rowRow (mulOf (matrixAt l a) (matrixAt l b)) (mulOf (matrixAt l c) (matrixAt l e)) i i .re
 
 -- the sites of a plaquette are sites
 pub record Corners (l : List Float) (v mu nu n f g : ℕ) : Type 0 where

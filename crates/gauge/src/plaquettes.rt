@@ -2,14 +2,14 @@ use mat::C64;
 use mat::Su3;
 ghost use mathlib.Core.Path.{_≡_};
 ghost use Prim.Native.Nat.{_<_};
+ghost use Rattle.mat.specs.Rounded.{_⊞_};
 ghost use Rattle.mat.specs.Matrix.{reTr};
-ghost use Rattle.mat.specs.Product.{rowRow, mulOf};
 ghost use Rattle.geometry.specs.Radix.{volume};
 ghost use Rattle.geometry.specs.Steps.{nearOf};
 ghost use Rattle.links.specs.Field.{fieldOf};
-ghost use Rattle.links.specs.Store.{matrixAt, Two};
+ghost use Rattle.links.specs.Store.{Two};
 ghost use Rattle.gauge.specs.Field.{linkOf, Holds, Plane};
-ghost use Rattle.gauge.specs.Plaquette.{plaquetteAt, plaquetteOf, planesSum, averageOf, actionOf, Corners};
+ghost use Rattle.gauge.specs.Plaquette.{plaquetteAt, diagonalAt, plaquetteOf, planesSum, averageOf, actionOf, Corners};
 
 // The plaquette in the plane of mu and nu.
 pub fn plaquette(links: &[f64], d: [usize; 4], n: usize, mu: usize, nu: usize) -> Su3
@@ -27,7 +27,7 @@ pub fn plaquette(links: &[f64], d: [usize; 4], n: usize, mu: usize, nu: usize) -
 // The real part of the i-th entry on the diagonal of a·b·(c·e)†, for matrices at four places.
 fn diagonal(links: &[f64], a: usize, b: usize, c: usize, e: usize, i: usize) -> f64
     requires { ⌜ Two (now links) a b × Two (now links) c e × (i < 3) ⌝ }
-    ensures { λ r. ⌜ r ≡ rowRow (mulOf (matrixAt (now (links .entry)) a) (matrixAt (now (links .entry)) b)) (mulOf (matrixAt (now (links .entry)) c) (matrixAt (now (links .entry)) e)) i i .re ⌝ }
+    ensures { λ r. ⌜ r ≡ diagonalAt (now (links .entry)) a b c e i ⌝ }
 {
     let mut s = C64::ZERO;
     for k in 0..3 {
@@ -42,6 +42,33 @@ fn diagonal(links: &[f64], a: usize, b: usize, c: usize, e: usize, i: usize) -> 
     s.re
 }
 
+// The sum of the first two of these. Two rows are worked out side by side, which is what the
+// machine's pairs of f64 are for.
+fn first_two(links: &[f64], a: usize, b: usize, c: usize, e: usize) -> f64
+    requires { ⌜ Two (now links) a b × Two (now links) c e ⌝ }
+    ensures { λ r. ⌜ r ≡ diagonalAt (now (links .entry)) a b c e 0 ⊞ diagonalAt (now (links .entry)) a b c e 1 ⌝ }
+{
+    let mut s = C64::ZERO;
+    let mut t = C64::ZERO;
+    for k in 0..3 {
+        s = s.add(links::mul_entry_at(links, a, b, 0, k).mul(links::mul_entry_at(
+            links,
+            c,
+            e,
+            0,
+            k,
+        ).conj()));
+        t = t.add(links::mul_entry_at(links, a, b, 1, k).mul(links::mul_entry_at(
+            links,
+            c,
+            e,
+            1,
+            k,
+        ).conj()));
+    }
+    s.re + t.re
+}
+
 // Re Tr of a plaquette, of which only the diagonal is worked out: f is n + mu, g is n + nu.
 fn trace(links: &[f64], v: usize, mu: usize, nu: usize, n: usize, f: usize, g: usize) -> f64
     requires { ⌜ Corners (now links) v mu nu n f g ⌝ }
@@ -51,7 +78,7 @@ fn trace(links: &[f64], v: usize, mu: usize, nu: usize, n: usize, f: usize, g: u
     let b = links::place(v, nu, f);
     let c = links::place(v, nu, n);
     let e = links::place(v, mu, g);
-    diagonal(links, a, b, c, e, 0) + diagonal(links, a, b, c, e, 1) + diagonal(links, a, b, c, e, 2)
+    first_two(links, a, b, c, e) + diagonal(links, a, b, c, e, 2)
 }
 
 // The sum of the six traces at a site; up has the next sites along the axes.

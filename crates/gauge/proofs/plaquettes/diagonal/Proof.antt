@@ -1,19 +1,16 @@
 use borrow.Author.Needs.{needs}
 use Prim.Native.Nat.{_-_, _≤_}
-use mathlib.Core.Path.{_≡_, refl}
+use mathlib.Core.Path.{_≡_}
 use native.Mathlib.Omega.{arith}
-use Rattle.loops.specs.Loops.{foldTo}
-use Rattle.loops.proofs.Laws.{fold-none, fold-next, fold-done}
-use Rattle.mat.specs.Complex.{cadd, cmul, conjOf, czero}
-use Rattle.mat.specs.Matrix.{at}
-use Rattle.mat.specs.Product.{mulOf, rowRow}
-use Rattle.mat.proofs.Entries.{mul-at}
+use Rattle.loops.proofs.Laws.{fold-none}
+use Rattle.mat.specs.Product.{mulOf}
 use Rattle.links.specs.Store.{matrixAt}
+use Rattle.gauge.proofs.RowProducts.{dotTo, dot-next, dot-done}
 use Rattle.gauge.proofs.plaquettes.diagonal.Statement.{statement}
 use Rattle.gauge.proofs.plaquettes.diagonal.Tie as tie
 
 abbrev Inv-loop : tie.InvT-loop
-Inv-loop links a b c e i s₀ k₀ s k = (k ≤ 3) × (s ≡ foldTo cadd czero (λ k. cmul (at (mulOf (matrixAt links a) (matrixAt links b)) i k) (conjOf (at (mulOf (matrixAt links c) (matrixAt links e)) i k))) k)
+Inv-loop links a b c e i s₀ k₀ s k = (k ≤ 3) × (s ≡ dotTo (mulOf (matrixAt links a) (matrixAt links b)) (mulOf (matrixAt links c) (matrixAt links e)) i k)
 
 abbrev μ-loop : tie.MeasureT-loop
 μ-loop links a b c e i s₀ k₀ s k = 3 - k
@@ -30,11 +27,10 @@ mul-entry-at-requires-2 c κs = let q = c .before .before .before .before .pre i
 loop-again : tie.Need-loop-again Inv-loop μ-loop
 loop-again c =
     let q = c .before .before .before .before .before .before .before .before .pre in
-    let t = c .before .before .before .before .before .loop-test .taken in
-    (omega arith, fold-next _ _ _ _ (c .before .before .before .before .before .before .loop .inv .1) (rw (c .before .mul .ensures, c .before .before .conj .ensures, c .before .before .before .mul-entry-at2 .ensures, c .before .before .before .before .mul-entry-at .ensures, mul-at _ _ _ _ (q .2) t, mul-at _ _ _ _ (q .2) t)) (c .add .ensures))
+    (omega arith, dot-next _ _ _ _ _ _ (q .2) (c .before .before .before .before .before .loop-test .taken) (c .before .before .before .before .before .before .loop .inv .1) (c .before .before .before .before .mul-entry-at .ensures) (c .before .before .before .mul-entry-at2 .ensures) (c .before .before .conj .ensures) (c .before .mul .ensures) (c .add .ensures))
 
 returns : tie.Need-returns Inv-loop μ-loop
-returns c = rw (fold-done _ _ _ {m = c .before .loop .k} {n = 3} (omega arith) (c .before .loop .inv .1)) (unfold rowRow in refl)
+returns c = dot-done _ _ _ {n = c .before .loop .k} (omega arith) (c .before .loop .inv .1)
 
 pub diagonal-spec : {M : Type 1} → statement M
 diagonal-spec = tie.close (tie.spec Inv-loop μ-loop loop-holds mul-entry-at-requires mul-entry-at-requires-2 (λ c κs. search needs) (λ c κs. search needs) (λ c κs. search needs) (λ c. search needs) (λ c. search needs) loop-again returns)
