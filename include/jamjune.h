@@ -1,9 +1,33 @@
 /* The C face of Jamjune: what libexport.a defines.
  *
- * A state of the generator is four words; any four are allowed. Nothing here refuses: every input has a defined answer.
- * A pointer must point to as many elements as its array says. Nothing is kept between calls. */
+ * Arrays and lists. An array points to as many elements as its brackets say. A list is a pointer and a length in
+ * elements; the pointer must not be null and must be aligned, even where the length is 0. What is written (arrays named
+ * out and out_*, a generator's state, lists without const) must overlap no other argument. Nothing is kept between calls.
+ *
+ * A matrix is 18 doubles: nine complex numbers row by row, each real part first. A 2x2 block is 8 doubles likewise. A
+ * complex number is 2 doubles. A quaternion a0 + i(a1 s1 + a2 s2 + a3 s3), with Pauli's matrices s, is the doubles a0 to
+ * a3. All NaNs count as one: which NaN is answered is open.
+ *
+ * A field: its extents are t, x, y, z, its sites their product, and the site at (t, x, y, z) has number
+ * t + nt (x + nx (y + ny z)). A direction is 0 for t, 1 for x, 2 for y, 3 for z; neighbours wrap. Its links are one list
+ * of 72 doubles per site: the link of direction mu at a site is the matrix that begins at 18 (mu * sites + site).
+ *
+ * Refusals. A call that returns uint32_t and can refuse returns the number of the first row below that holds among those
+ * named at the call, and 0 where none does. Rows are tried in the order of their numbers, but 10 last. Each output array
+ * is written in every case: refused, its numbers are 0 or +0. A refused call leaves every list as it was.
+ *
+ *    1   an extent is odd, below 2 or above 16
+ *    2   the coupling is not finite, below 0 or above 100 (-0 passes)
+ *    3   the list of links has not 72 numbers per site
+ *    4   a site is not below the number of sites, or a coordinate not below its extent
+ *    5   a direction is above 3, a plane's two directions are equal, or a subgroup is above 2
+ *   10   a number to be answered is not finite
+ *   12   the list for unsound links has fewer than 4 places per site
+ *
+ * Calls that name no row refuse nothing: every input has a defined answer, infinities and NaN included. */
 #ifndef JAMJUNE_H
 #define JAMJUNE_H
+#include <stddef.h>
 #include <stdint.h>
 
 /* ---- words */
@@ -20,7 +44,7 @@ uint64_t jj_rotate_left(uint64_t x, uint32_t k);
  * +0, -0 and +infinity give themselves; below zero and NaN give NaN. */
 double jj_sqrt(double x);
 
-/* ---- generator: xoshiro256++ seeded through splitmix64 */
+/* ---- generator: xoshiro256++ seeded through splitmix64; a state is any four words */
 
 /* Sets out_state to the start of the stream of this seed, pass, direction and site, whatever it held. */
 void jj_stream(uint64_t seed, uint64_t pass, uint64_t mu, uint64_t site, uint64_t out_state[4]);
@@ -34,5 +58,122 @@ double jj_uniform(uint64_t state[4]);
 
 /* The top 53 bits of raw over 2^53, exactly. */
 double jj_uniform_of(uint64_t raw);
+
+/* ---- matrices: any complex 3x3 matrices, not only those of SU(3); every operation rounds once, none is fused */
+
+/* out = a b */
+void jj_su3_mul(const double a[18], const double b[18], double out[18]);
+
+/* out = a b^, where b^ is the conjugate transpose of b */
+void jj_su3_mul_dag(const double a[18], const double b[18], double out[18]);
+
+/* out = a^ b */
+void jj_su3_dag_mul(const double a[18], const double b[18], double out[18]);
+
+/* out = a + b */
+void jj_su3_add(const double a[18], const double b[18], double out[18]);
+
+/* out = a - b */
+void jj_su3_sub(const double a[18], const double b[18], double out[18]);
+
+/* out = a^, the conjugate transpose */
+void jj_su3_dagger(const double a[18], double out[18]);
+
+/* out = s a, for a real s */
+void jj_su3_scale(const double a[18], double s, double out[18]);
+
+/* out = the trace of a */
+void jj_su3_trace(const double a[18], double out[2]);
+
+/* The trace's real part. */
+double jj_su3_re_tr(const double a[18]);
+
+/* The squared distance of a and b: the sum of |a_ij - b_ij|^2, row by row from +0. */
+double jj_su3_dist_sqr(const double a[18], const double b[18]);
+
+/* out = the determinant of a, by the first row's minors */
+void jj_su3_det(const double a[18], double out[2]);
+
+/* out = a projected onto SU(3): the first row made a unit row, the second made a unit row orthogonal to it, the third set
+ * to the conjugate of their cross product. The third row of a is not read. A first or second row of zeros gives NaNs. */
+void jj_su3_reunitarize(const double a[18], double out[18]);
+
+/* out = the anti-Hermitian traceless part of a: (a - a^) / 2 less a third of its trace on the diagonal */
+void jj_su3_traceless_antihermitian(const double a[18], double out[18]);
+
+/* out = the exponential of an anti-Hermitian traceless a: its series up to a^12 / 12!, then as by jj_su3_reunitarize.
+ * Any a is taken, and the same is done to it. */
+void jj_su3_exp_antihermitian(const double a[18], double out[18]);
+
+/* ---- blocks and quaternions: subgroup 0 acts on rows and columns 0 and 1, subgroup 1 on 0 and 2, subgroup 2 on 1 and 2 */
+
+/* out = the entries of a at the subgroup's rows and columns. Row 5. */
+uint32_t jj_sub_block(const double a[18], size_t subgroup, double out[8]);
+
+/* out = a with the subgroup's two rows left-multiplied by the block x. Row 5. */
+uint32_t jj_left_mul_sub(const double a[18], size_t subgroup, const double x[8], double out[18]);
+
+/* out = the block x projected orthogonally onto the real span of SU(2) */
+void jj_quat_project(const double x[8], double out[4]);
+
+/* The root of a0^2 + a1^2 + a2^2 + a3^2. */
+double jj_quat_norm(const double a[4]);
+
+/* out = a0, -a1, -a2, -a3 */
+void jj_quat_conj(const double a[4], double out[4]);
+
+/* out = the product a b */
+void jj_quat_mul(const double a[4], const double b[4], double out[4]);
+
+/* out = the block that a is: a0 + i a3, a2 + i a1; -a2 + i a1, a0 - i a3 */
+void jj_quat_to_mat(const double a[4], double out[8]);
+
+/* ---- sites */
+
+/* out = the number of sites. Row 1. */
+uint32_t jj_n_sites(const size_t ext[4], size_t out[1]);
+
+/* out = the coordinates t, x, y, z of a site. Rows 1, 4. */
+uint32_t jj_coords(const size_t ext[4], size_t site, size_t out[4]);
+
+/* out = the site at the coordinates c. Rows 1, 4. */
+uint32_t jj_index(const size_t ext[4], const size_t c[4], size_t out[1]);
+
+/* out = 0 or 1: the coordinates' sum modulo 2. Rows 1, 4. */
+uint32_t jj_parity(const size_t ext[4], size_t site, size_t out[1]);
+
+/* out = the next site along direction mu. Rows 1, 4, 5. */
+uint32_t jj_fwd(const size_t ext[4], size_t site, size_t mu, size_t out[1]);
+
+/* out = the site before along direction mu. Rows 1, 4, 5. */
+uint32_t jj_bwd(const size_t ext[4], size_t site, size_t mu, size_t out[1]);
+
+/* ---- field: n is the length of links */
+
+/* Cold start: every link becomes the identity. The plan is these extents, coupling and seed, with pass 0; the seed may be
+ * anything, and leaves nothing in the list. Rows 1, 2, 3. */
+uint32_t jj_cold(const size_t ext[4], double coupling, uint64_t seed, double *links, size_t n);
+
+/* out = the plaquette of directions mu, then nu, at a site. Rows 1, 3, 4, 5, 10. */
+uint32_t jj_plaquette(const size_t ext[4], size_t site, size_t mu, size_t nu, const double *links, size_t n, double out[18]);
+
+/* out = the sum of the six staples around the link of direction mu at a site. The coupling is judged and not otherwise
+ * read. Rows 1, 2, 3, 4, 5, 10. */
+uint32_t jj_staple(const size_t ext[4], double coupling, size_t site, size_t mu, const double *links, size_t n, double out[18]);
+
+/* out = a third of the real trace of a plaquette, averaged over all sites and the six planes. Rows 1, 3, 10. */
+uint32_t jj_average_plaquette(const size_t ext[4], const double *links, size_t n, double out[1]);
+
+/* out = the Wilson action: the coupling times the sum over all plaquettes of 1 less a third of the real trace.
+ * Rows 1, 2, 3, 10. */
+uint32_t jj_action(const size_t ext[4], double coupling, const double *links, size_t n, double out[1]);
+
+/* out = the Polyakov loop: a third of the trace of the product of links along t, averaged over space. Rows 1, 3, 10. */
+uint32_t jj_polyakov_loop(const size_t ext[4], const double *links, size_t n, double out[2]);
+
+/* Looks for unsound links: those with one of their 18 numbers not finite, below -1 or above 1. Each one's number,
+ * direction times sites + site, goes once to the front of found, in an order that is left open; later places keep what
+ * they held. out_count = how many there are. room is the length of found. Rows 1, 3, 12. */
+uint32_t jj_link_check(const size_t ext[4], const double *links, size_t n, uint32_t *found, size_t room, uint32_t out_count[1]);
 
 #endif

@@ -1,6 +1,9 @@
 //! Inputs, the same at every run.
 
 mod hard_roots;
+mod matrices;
+
+pub use matrices::hard;
 
 use std::ops::RangeInclusive;
 

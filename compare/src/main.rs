@@ -1,13 +1,27 @@
 //! Compares each call of the static library with the unchanged Rust on the same inputs, bit by bit,
 //! and then times both. The status is 1 where any answer differs.
+//!
+//! With the word `sample` it prints the reference's answers for a replay without Rust, and nothing
+//! else.
 
 #![deny(unsafe_code)]
 
+mod calls;
 mod face;
+mod fields;
+mod flat;
 mod generator;
+mod geometry;
+mod ground;
 mod inputs;
+mod lattice;
+mod mat;
 mod reference;
+mod refusals;
+mod replay;
 mod root;
+mod rows;
+mod sample;
 mod stopwatch;
 mod tally;
 mod times;
@@ -19,13 +33,32 @@ use tally::Tally;
 /// A group of calls: its name, and what compares all its calls.
 type Group = (&'static str, fn(&mut Tally));
 
-const GROUPS: [Group; 3] = [
+const GROUPS: [Group; 8] = [
     ("words", words::compare),
     ("root", root::compare),
     ("generator", generator::compare),
+    ("matrices", mat::compare),
+    ("geometry", geometry::compare),
+    ("lattice", lattice::compare),
+    ("refusals", refusals::compare),
+    ("replay", replay::compare),
 ];
 
 fn main() -> ExitCode {
+    match std::env::args().nth(1).as_deref() {
+        None => compare(),
+        Some("sample") => {
+            print!("{}", sample::lines());
+            ExitCode::SUCCESS
+        }
+        Some(other) => {
+            eprintln!("compare: {other}: the only word that I know is sample");
+            ExitCode::from(2)
+        }
+    }
+}
+
+fn compare() -> ExitCode {
     let mut total = Tally::default();
     for (name, compare) in GROUPS {
         let mut tally = Tally::default();

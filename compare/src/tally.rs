@@ -18,6 +18,24 @@ pub fn bits(x: f64) -> u64 {
     }
 }
 
+/// An answer as words.
+pub type Words = Vec<u64>;
+
+/// The patterns of numbers.
+pub fn words(numbers: &[f64]) -> Words {
+    numbers.iter().map(|&x| bits(x)).collect()
+}
+
+/// The answer of a call that can refuse: its refusal number, then its other numbers as words.
+pub fn answer(refusal: u32, others: impl IntoIterator<Item = u64>) -> Words {
+    [refusal.into()].into_iter().chain(others).collect()
+}
+
+/// A refusal with this number, whose others, so many, are 0 or +0.
+pub fn refused(number: u32, others: usize) -> Words {
+    answer(number, std::iter::repeat_n(0, others))
+}
+
 #[derive(Default)]
 pub struct Tally {
     compared: u64,
@@ -30,23 +48,32 @@ impl Tally {
     pub fn check(&mut self, call: &'static str, inputs: &[u64], rattle: &[u64], rust: &[u64]) {
         self.compared += 1;
         if rattle != rust {
-            self.mismatch(call, inputs, rattle, rust);
+            self.mismatch(call, || {
+                let [inputs, rattle, rust] = [inputs, rattle, rust].map(hex);
+                format!("({inputs}): Rattle {rattle}, Rust {rust}")
+            });
+        }
+    }
+
+    /// Holds a stored line to the reference's of the same number; either may be missing.
+    pub fn check_line(&mut self, number: usize, stored: Option<&str>, rust: Option<&str>) {
+        self.compared += 1;
+        if stored != rust {
+            let [stored, rust] = [stored, rust].map(|line| line.unwrap_or("nothing"));
+            self.mismatch("line", || {
+                format!(" {number}: stored {stored}, Rust {rust}")
+            });
         }
     }
 
     #[cold]
-    fn mismatch(&mut self, call: &'static str, inputs: &[u64], rattle: &[u64], rust: &[u64]) {
-        let count = self.mismatches.entry(call).or_default();
+    fn mismatch(&mut self, what: &'static str, seen: impl FnOnce() -> String) {
+        let count = self.mismatches.entry(what).or_default();
         *count += 1;
         if *count <= SHOWN {
-            println!(
-                "mismatch: {call}({}): Rattle {}, Rust {}",
-                hex(inputs),
-                hex(rattle),
-                hex(rust)
-            );
+            println!("mismatch: {what}{}", seen());
         } else if *count == SHOWN + 1 {
-            println!("mismatch: {call}: further ones are counted only");
+            println!("mismatch: {what}: further ones are counted only");
         }
     }
 

@@ -1,11 +1,14 @@
 //! The table of times.
 //!
-//! On both sides each call is a real one, through a pointer: the static library's functions cannot
-//! be inlined, and on the Rust's side stands an `#[inline(never)] extern "C"` function of the same
-//! type. So each row has the cost of a call in both columns.
+//! On both sides each call is a real one: the static library's functions cannot be inlined, and on
+//! the Rust's side stands an `#[inline(never)]` function, where a call is short an `extern "C"` one
+//! through a pointer like the library's. So each row has the cost of a call in both columns.
 //!
 //! A row of two or three nanoseconds moves by a few cycles with the addresses that code comes to
 //! stand at: its ratio says something only where it stays the same from build to build.
+
+mod lattice;
+mod mat;
 
 use crate::face::{self, State};
 use crate::inputs::Source;
@@ -37,6 +40,9 @@ pub fn print() {
         next_u64(&mut source),
         uniform(&mut source),
     ] {
+        println!("{row}");
+    }
+    for row in mat::rows().into_iter().chain(lattice::rows()) {
         println!("{row}");
     }
 }

@@ -2,12 +2,15 @@
 use Prim.Native.Nat.{ℕ, zero, suc, _<_}
 use mathlib.Core.Bool.{cond}
 use mathlib.Core.List.{List}
+use mathlib.Core.Path.{_≡_}
 use lib.Dec.{eqb}
 use lib.Ieee.{Float}
 use Rattle.mat.specs.declared.Su3.{Su3}
 use Rattle.mat.specs.Matrix.{zeroOf, addOf, daggerOf}
 use Rattle.mat.specs.Product.{mulOf, mulDagOf, dagMulOf}
-use Rattle.geometry.specs.Steps.{fwdOf, bwdOf}
+use Rattle.geometry.specs.Radix.{volume}
+use Rattle.geometry.specs.Shape.{Shape}
+use Rattle.geometry.specs.Steps.{fwdOf, bwdOf, parityOf}
 use Rattle.links.specs.Field.{Field, Sized}
 
 -- U_ν(f) U_μ†(u) U_ν†(n), where f is n+μ and u is n+ν
@@ -43,3 +46,26 @@ pub record Ring (l : List Float) (v mu nu n f u b s : ℕ) : Type 0 where
   pub up : u < v
   pub back : b < v
   pub side : s < v
+
+-- ## Which links a staple reads
+
+-- two fields agree on the links of the six staples around U_μ(n)
+pub record SameAround (d : List ℕ) (U W : Field) (n mu : ℕ) : Type 0 where
+  pub ahead : (nu : ℕ) → nu < 4 → (nu ≡ mu → ⊥) → U nu (fwdOf d n mu) ≡ W nu (fwdOf d n mu)
+  pub above : (nu : ℕ) → nu < 4 → (nu ≡ mu → ⊥) → U mu (fwdOf d n nu) ≡ W mu (fwdOf d n nu)
+  pub here : (nu : ℕ) → nu < 4 → (nu ≡ mu → ⊥) → U nu n ≡ W nu n
+  pub corner : (nu : ℕ) → nu < 4 → (nu ≡ mu → ⊥) → U nu (bwdOf d (fwdOf d n mu) nu) ≡ W nu (bwdOf d (fwdOf d n mu) nu)
+  pub below : (nu : ℕ) → nu < 4 → (nu ≡ mu → ⊥) → U mu (bwdOf d n nu) ≡ W mu (bwdOf d n nu)
+  pub behind : (nu : ℕ) → nu < 4 → (nu ≡ mu → ⊥) → U nu (bwdOf d n nu) ≡ W nu (bwdOf d n nu)
+
+-- then the staples are the same
+abbrev pub StapleIsLocal : Type 0
+StapleIsLocal = (d : List ℕ) (U W : Field) (n mu : ℕ) → SameAround d U W n mu → stapleOf d U n mu ≡ stapleOf d W n mu
+
+-- two fields agree on every link but those of direction μ at sites of parity p
+abbrev pub SameOff : List ℕ → ℕ → ℕ → Field → Field → Type 0
+SameOff d mu p U W = (nu a : ℕ) → nu < 4 → a < volume d → (nu ≡ mu → parityOf d a ≡ p → ⊥) → U nu a ≡ W nu a
+
+-- around a link of direction μ at a site of parity p there is none of these
+abbrev pub NoneAround : Type 0
+NoneAround = (d : List ℕ) → Shape d → (mu p : ℕ) (U W : Field) → mu < 4 → SameOff d mu p U W → (n : ℕ) → n < volume d → parityOf d n ≡ p → SameAround d U W n mu

@@ -77,7 +77,8 @@ pub fn plaquette(
             matrix: Su3::ZERO,
         };
     }
-    judged_matrix(gauge::plaquette(links, extents, site, mu, nu))
+    let u = gauge::plaquette(links, extents, site, mu, nu);
+    judged_matrix(u)
 }
 
 // The sum of the six staples around a link.
@@ -92,7 +93,8 @@ pub fn staple(plan: Plan, site: usize, mu: usize, links: &[f64]) -> MatrixAnswer
             matrix: Su3::ZERO,
         };
     }
-    judged_matrix(gauge::staple(links, d, site, mu))
+    let a = gauge::staple(links, d, site, mu);
+    judged_matrix(a)
 }
 
 // ⟨Re Tr U_P⟩ / 3, averaged over all sites and the six planes.
@@ -103,7 +105,8 @@ pub fn average_plaquette(extents: [usize; 4], links: &[f64]) -> Number
     if row != 0 {
         return Number::Refused(row);
     }
-    judged_number(gauge::average(links, extents))
+    let average = gauge::average(links, extents);
+    judged_number(average)
 }
 
 // The Wilson action β Σ (1 − Re Tr U_P / 3).
@@ -115,7 +118,8 @@ pub fn action(plan: Plan, links: &[f64]) -> Number
     if row != 0 {
         return Number::Refused(row);
     }
-    judged_number(gauge::action(links, d, plan.coupling))
+    let action = gauge::action(links, d, plan.coupling);
+    judged_number(action)
 }
 
 // The Polyakov loop ⟨Tr Π U_0⟩ / 3, averaged over space.
@@ -130,5 +134,6 @@ pub fn polyakov_loop(extents: [usize; 4], links: &[f64]) -> LoopAnswer
             im: 0.0,
         };
     }
-    judged_pair(gauge::polyakov_loop(links, extents))
+    let z = gauge::polyakov_loop(links, extents);
+    judged_pair(z)
 }

@@ -1,11 +1,16 @@
 -- Every point of the table holds: antt computes both sides. Assumes nothing.
 use mathlib.Core.Path.{refl}
+use native.Mathlib.Decide.{ℕ-discrete}
 use lib.Ieee.{toBits, ofInt}
 use Rattle.root.specs.Sqrt.{sqrtOf}
 use Rattle.rng.specs.Xoshiro.{drawOf, resultOf, nextOf}
 use Rattle.rng.specs.Uniform.{uniformOf}
+use Rattle.geometry.specs.Range.{range}
+use Rattle.geometry.specs.Radix.{volume, coordsOf, indexOf}
+use Rattle.geometry.specs.Steps.{total, fwdOf, bwdOf, movedOf, parityOf}
+use Rattle.geometry.specs.Order.{sitesOf}
 use Rattle.points.specs.Points.{PointsHold}
 
 pub points-hold : PointsHold
-unfolding toBits ofInt sqrtOf drawOf resultOf nextOf uniformOf
+unfolding coordsOf parityOf total fwdOf bwdOf movedOf indexOf sitesOf range volume ℕ-discrete toBits ofInt sqrtOf drawOf resultOf nextOf uniformOf
 points-hold = refl

@@ -9,6 +9,9 @@ use Rattle.root.specs.Sqrt.{sqrtOf}
 use Rattle.rng.specs.declared.Rng.{Rng}
 use Rattle.rng.specs.Xoshiro.{drawOf}
 use Rattle.rng.specs.Uniform.{uniformOf}
+use Rattle.geometry.specs.Radix.{coordsOf}
+use Rattle.geometry.specs.Steps.{fwdOf, bwdOf, parityOf}
+use Rattle.geometry.specs.Order.{sitesOf}
 
 -- what the definitions give, and what it has to be: whole numbers, and an f64 by its bits
 pub record Point : Type 0 where
@@ -30,10 +33,25 @@ abbrev draws : ℕ → Rng → List ℕ
 draws zero g = []
 draws (suc n) g = drawOf g .value ∷ draws n (drawOf g .rng)
 
+-- extents t, x, y, z
+abbrev box : List ℕ
+box = 4 ∷ 2 ∷ 2 ∷ 2 ∷ []
+
+abbrev cube : List ℕ
+cube = 2 ∷ 2 ∷ 2 ∷ 2 ∷ []
+
 abbrev pub points : List Point
 points =
+    -- of extents 4, 2, 2, 2, site 23 is at 3, 1, 0, 1 and has parity 1
+    record { given = coordsOf box 23; wanted = 3 ∷ 1 ∷ 0 ∷ 1 ∷ [] }
+    ∷ record { given = parityOf box 23 ∷ []; wanted = 1 ∷ [] }
+    -- site 0 has the neighbours 1 and 3 along time, and 4 both ways along x
+    ∷ record { given = fwdOf box 0 0 ∷ bwdOf box 0 0 ∷ []; wanted = 1 ∷ 3 ∷ [] }
+    ∷ record { given = fwdOf box 0 1 ∷ bwdOf box 0 1 ∷ []; wanted = 4 ∷ 4 ∷ [] }
+    -- of extents 2, 2, 2, 2, these sites have parity 0
+    ∷ record { given = sitesOf cube 0; wanted = 0 ∷ 3 ∷ 5 ∷ 6 ∷ 9 ∷ 10 ∷ 12 ∷ 15 ∷ [] }
     -- the state 1, 2, 3, 4 draws 41943041, and then 58720359
-    record { given = draws 2 (record { s = 1 ∷ 2 ∷ 3 ∷ 4 ∷ [] }); wanted = 41943041 ∷ 58720359 ∷ [] }
+    ∷ record { given = draws 2 (record { s = 1 ∷ 2 ∷ 3 ∷ 4 ∷ [] }); wanted = 41943041 ∷ 58720359 ∷ [] }
     -- the raw draw 2047 gives the uniform number 0, and 2048 gives 2 ^ -53
     ∷ record { given = bits (uniformOf 2047); wanted = bits (whole 0) }
     ∷ record { given = bits (uniformOf 2048); wanted = bits (twoTo (negsuc 52)) }

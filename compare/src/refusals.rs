@@ -1,0 +1,181 @@
+//! Every row of the table that these calls have: its example, and then all arguments, good and bad,
+//! with each other, so that each row is also met with others that hold.
+
+use crate::calls::{CALLS, Call};
+use crate::face::Four;
+use crate::fields::{self, KINDS};
+use crate::ground::{Ground, Lent, Lists};
+use crate::rows::{Arguments, Part};
+use crate::tally::{Tally, refused};
+
+/// The two extents that are good here; the list of links is as long as the second ones want.
+const GOOD: [Four; 2] = [[2, 2, 2, 2], [4, 2, 2, 2]];
+const LINKS: usize = 72 * 32;
+const FOUND: usize = 4 * 32;
+
+/// Each in each place of the first good ones.
+const BAD_SIDES: [usize; 9] = [0, 1, 3, 17, 18, 1 << 32, 1 << 60, 1 << 63, usize::MAX];
+
+/// Several bad ones; some of these have products that wrap to 0 or to 16.
+const BAD: [Four; 7] = [
+    [3, 3, 3, 3],
+    [0, 0, 0, 0],
+    [usize::MAX; 4],
+    [1 << 16; 4],
+    [1 << 32, 1 << 32, 2, 2],
+    [1 << 62, 2, 2, 16],
+    [(1 << 61) + 2, 2, 2, 2],
+];
+
+const COUPLINGS: [f64; 12] = [
+    6.0,
+    0.0,
+    -0.0,
+    100.0,
+    f64::from_bits(1),
+    -1.0,
+    f64::NAN,
+    f64::INFINITY,
+    f64::NEG_INFINITY,
+    100.000_000_000_000_01,
+    -f64::from_bits(1),
+    -f64::NAN,
+];
+const LENGTHS: [usize; 8] = [1152, 1151, 1153, 0, 1, 72, LINKS - 1, LINKS];
+const SITES: [usize; 7] = [0, 15, 16, 31, 32, 1 << 63, usize::MAX];
+const ROOMS: [usize; 7] = [64, 63, 65, 0, 1, FOUND - 1, FOUND];
+const DIRECTIONS: [usize; 6] = [0, 1, 3, 4, 1 << 32, usize::MAX];
+const COORDINATES: [Four; 9] = [
+    [0, 0, 0, 0],
+    [1, 1, 1, 1],
+    [2, 0, 0, 0],
+    [4, 1, 1, 1],
+    [0, 2, 0, 0],
+    [0, 0, 2, 0],
+    [0, 0, 0, 2],
+    [0, 0, 0, usize::MAX],
+    [usize::MAX; 4],
+];
+
+/// A row's example from the document: the part that it spoils. A call that takes the part is refused
+/// with the row's number.
+type Example = (u32, Part, fn(&mut Arguments));
+
+const EXAMPLES: [Example; 9] = [
+    (1, Part::Extents, |a| a.ext = [3, 2, 2, 2]),
+    (1, Part::Extents, |a| a.ext = [2, 2, 2, 18]),
+    (2, Part::Coupling, |a| a.coupling = -1.0),
+    (3, Part::Links, |a| a.links = &a.links[..1151]),
+    (4, Part::Site, |a| a.site = 16),
+    (4, Part::Coordinates, |a| a.at = [0, 2, 0, 0]),
+    (5, Part::Direction, |a| a.mu = 4),
+    (5, Part::Other, |a| (a.mu, a.nu) = (1, 1)),
+    (12, Part::Room, |a| a.found = &a.found[..63]),
+];
+
+/// The calls that row 10 can refuse: those that answer numbers of the links.
+const ANSWER_NUMBERS: [&str; 5] = [
+    "jj_plaquette",
+    "jj_staple",
+    "jj_average_plaquette",
+    "jj_action",
+    "jj_polyakov_loop",
+];
+
+pub fn compare(tally: &mut Tally) {
+    for name in ["group", "damaged", "nan"] {
+        let mut bench = Bench::new(name);
+        for call in &CALLS {
+            bench.examples(tally, call);
+            bench.crossed(tally, call);
+        }
+    }
+}
+
+/// One list under both good extents.
+struct Bench {
+    kind: &'static str,
+    grounds: [Ground; 2],
+    lent: Lent,
+}
+
+impl Bench {
+    fn new(kind: &'static str) -> Self {
+        let number = fields::number_of(kind);
+        let links = fields::links(&KINDS[number], GOOD[1], 1);
+        let lists = Lists::new(links, vec![u32::MAX; FOUND]);
+        let label = [number as u64, 1];
+        Self {
+            kind,
+            lent: lists.lend(),
+            grounds: GOOD.map(|ext| Ground::new(label, ext, lists.clone())),
+        }
+    }
+
+    /// With the numbers written here, and not by the rows.
+    fn examples(&self, tally: &mut Tally, call: &Call) {
+        let (ground, lent) = (&self.grounds[0], &self.lent);
+        let good = lent.arguments(GOOD[0], 1152, 64);
+        for (row, part, spoil) in EXAMPLES {
+            if call.takes.contains(&part) {
+                let mut a = good;
+                spoil(&mut a);
+                ground.hold(tally, call, &a, lent, refused(row, call.width));
+            }
+        }
+        if self.kind == "nan" && ANSWER_NUMBERS.contains(&call.name) {
+            ground.hold(tally, call, &good, lent, refused(10, call.width));
+        }
+    }
+
+    /// Everything that the call takes with everything else.
+    fn crossed(&mut self, tally: &mut Tally, call: &Call) {
+        let lent = &self.lent;
+        let good = lent.arguments(GOOD[0], 1152, 64);
+        let all = call.takes.iter().fold(vec![good], |all, &part| {
+            all.iter().flat_map(|a| variants(part, a, lent)).collect()
+        });
+        for a in all {
+            let second = a.ext == GOOD[1];
+            self.grounds[usize::from(second)].check(tally, call, &a, lent);
+        }
+    }
+}
+
+/// The arguments with each choice for one part.
+fn variants<'a>(part: Part, a: &Arguments<'a>, lent: &'a Lent) -> Vec<Arguments<'a>> {
+    match part {
+        Part::Extents => extents().map(|ext| Arguments { ext, ..*a }).collect(),
+        Part::Coupling => of(COUPLINGS, |coupling| Arguments { coupling, ..*a }),
+        Part::Links => of(LENGTHS, |n| Arguments {
+            links: &lent.links[..n],
+            ..*a
+        }),
+        Part::Site => of(SITES, |site| Arguments { site, ..*a }),
+        Part::Coordinates => of(COORDINATES, |at| Arguments { at, ..*a }),
+        Part::Direction => of(DIRECTIONS, |mu| Arguments { mu, ..*a }),
+        Part::Other => of(DIRECTIONS, |nu| Arguments { nu, ..*a }),
+        Part::Room => of(ROOMS, |n| Arguments {
+            found: &lent.found[..n],
+            ..*a
+        }),
+    }
+}
+
+fn of<'a, T, const N: usize>(
+    choices: [T; N],
+    make: impl Fn(T) -> Arguments<'a>,
+) -> Vec<Arguments<'a>> {
+    choices.into_iter().map(make).collect()
+}
+
+fn extents() -> impl Iterator<Item = Four> {
+    let spoilt = (0..4).flat_map(|place| {
+        BAD_SIDES.map(|side| {
+            let mut ext = GOOD[0];
+            ext[place] = side;
+            ext
+        })
+    });
+    GOOD.into_iter().chain(spoilt).chain(BAD)
+}

@@ -1,0 +1,50 @@
+-- From what the called functions promise to what a host is promised.
+use Prim.Native.Nat.{ℕ, zero, suc, _*_, _≤_}
+use mathlib.Core.Bool.{Bool, true, false, not}
+use mathlib.Core.Path.{_≡_, refl, ap, _∙_}
+use mathlib.Core.List.{List, [], _∷_}
+use native.Mathlib.Omega.{arith}
+use lib.Ieee.{Float}
+use lib.ListN.{length}
+use Rattle.rows.specs.declared.Count.{Count}
+use Rattle.rows.specs.declared.Number.{Number}
+use Rattle.rows.specs.Rows.{firstRow, ifAccepted}
+use Rattle.rows.specs.Answers.{IsCount, IsNumber, refusalOf, countIn, refusalIn, valueIn}
+use Rattle.geometry.specs.Radix.{volume}
+use Rattle.geometry.specs.Shape.{fitsOf}
+use Rattle.geometry.proofs.Shape.{fits-shape, volume-high}
+use Rattle.links.specs.Field.{Field}
+use Rattle.gauge.specs.Sound.{soundLink, unsoundLinks}
+use Rattle.gauge.proofs.Unsound.{failing-few}
+use Rattle.lattice.specs.Situations.{badExtents}
+use Rattle.lattice.specs.Rows.{checkRows}
+use Rattle.export.specs.Face.{CountGiven, NumberGiven}
+
+pub count-given : {row n r v : ℕ} {a : Count} → IsCount row n a → r ≡ refusalOf a → v ≡ countIn a → CountGiven row n r (v ∷ [])
+count-given h e f = record { refusal = e ∙ h .refusal; array = ap (λ (k : ℕ). k ∷ []) (f ∙ h .value) }
+
+pub number-given : {row r : ℕ} {x v : Float} {a : Number} → IsNumber row x a → r ≡ refusalIn a → v ≡ valueIn a → NumberGiven row x r (v ∷ [])
+number-given h e f = record { refusal = e ∙ h .refusal; array = ap (λ (k : Float). k ∷ []) (f ∙ h .value) }
+
+-- ## The link check's count
+
+module _ (d : List ℕ) (four : length d ≡ 4) (U : Field) where
+  few : fitsOf d ≡ true → length (unsoundLinks d U) ≤ 262144
+  unfolding unsoundLinks
+  few h = omega (arith, failing-few (soundLink d U) (4 * volume d), volume-high d (fits-shape d four h))
+
+  -- no extent that row 1 refuses
+  fits : (b : Bool) (rows : List (Bool × ℕ)) → firstRow ((not b, 1) ∷ rows) ≡ 0 → b ≡ true
+  unfolding firstRow
+  fits true rows e = refl
+  fits false rows e = absurd (omega (arith, e))
+
+  of-row : (row : ℕ) → (row ≡ 0 → length (unsoundLinks d U) ≤ 262144) → ifAccepted row (length (unsoundLinks d U)) 0 ≤ 262144
+  unfolding ifAccepted
+  of-row zero h = h refl
+  of-row (suc r) h = omega arith
+
+  -- so the count fits 32 bits
+  pub count-low : (long room : ℕ) {v : ℕ} {a : Count} → IsCount (firstRow (checkRows d long room)) (length (unsoundLinks d U)) a → v ≡ countIn a → v ≤ 262144
+  unfolding badExtents
+  count-low long room h e = rw (e, h .value) (of-row (firstRow (checkRows d long room)) (λ p. few (fits (fitsOf d) _ p)))

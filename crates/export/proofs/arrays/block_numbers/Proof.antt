@@ -1,0 +1,11 @@
+use Rattle.export.proofs.arrays.block_numbers.Statement.{statement}
+use mathlib.Core.Path.{refl}
+use Rattle.export.specs.Face.{blockNumbers}
+use Rattle.export.proofs.arrays.block_numbers.Tie as tie
+
+returns : tie.Need-returns
+unfolding blockNumbers
+returns c = refl
+
+pub block-numbers-spec : {M : Type 1} → statement M
+block-numbers-spec = tie.close (tie.spec returns)
