@@ -1,0 +1,35 @@
+// The inputs that compare/ gives the unchanged Rust, made again, and a line for each answer of this
+// project's calls to them, or for a hash of many. The Rust printed the stored output, so these calls
+// are held to a sample of its answers, and no Rust is needed. compare/src/sample.rs has the lines.
+mod arithmetic;
+mod field_lines;
+mod hash;
+mod inputs;
+mod print;
+mod site_lines;
+
+use inputs::Kind;
+use inputs::Set;
+
+// The list is 72 numbers for each site.
+fn lattice_lines(extents: [usize; 4], links: &mut [f64]) {
+    site_lines::lines(extents);
+    field_lines::lines(extents, Kind::Cold, b"cold", links);
+    field_lines::lines(extents, Kind::Raw, b"raw", links);
+    field_lines::lines(extents, Kind::Group, b"group", links);
+    field_lines::lines(extents, Kind::Smooth, b"smooth", links);
+    field_lines::lines(extents, Kind::Damaged, b"damaged", links);
+    field_lines::lines(extents, Kind::Huge, b"huge", links);
+    field_lines::lines(extents, Kind::Units, b"units", links);
+}
+
+fn main() {
+    arithmetic::lines(Set::Raw);
+    arithmetic::lines(Set::Units);
+    let mut links = [0.0; 1152];
+    lattice_lines([2, 2, 2, 2], &mut links);
+    let mut links = [0.0; 2304];
+    lattice_lines([4, 2, 2, 2], &mut links);
+    let mut links = [0.0; 6912];
+    lattice_lines([2, 6, 4, 2], &mut links);
+}
