@@ -124,7 +124,11 @@ fn main() {
         0x3fef_ffff_ffff_ffff,
     );
     let t = t.whole(b"sites of 16 2 2 2 ", sites_or_row([16, 2, 2, 2]), 128);
-    let t = t.whole(b"row that refuses 18 2 2 2 ", sites_or_row([18, 2, 2, 2]), 1);
+    let t = t.whole(
+        b"row that refuses 18 2 2 2 ",
+        sites_or_row([18, 2, 2, 2]),
+        1,
+    );
     io::print_decimal(1, t.compared as u64);
     io::write_all(1, b" compared, ");
     io::print_decimal(1, t.differ as u64);
