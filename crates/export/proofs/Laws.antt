@@ -9,7 +9,7 @@ use lib.ListN.{length}
 use Rattle.rows.specs.declared.Count.{Count}
 use Rattle.rows.specs.declared.Number.{Number}
 use Rattle.rows.specs.Rows.{firstRow, ifAccepted}
-use Rattle.rows.specs.Answers.{IsCount, IsNumber, refusalOf, countIn, refusalIn, valueIn}
+use Rattle.rows.specs.Answers.{IsCount, IsNumber, countRefusal, countValue, numberRefusal, numberValue}
 use Rattle.geometry.specs.Radix.{volume}
 use Rattle.geometry.specs.Shape.{fitsOf}
 use Rattle.geometry.proofs.Shape.{fits-shape, volume-high}
@@ -20,10 +20,10 @@ use Rattle.lattice.specs.Situations.{badExtents}
 use Rattle.lattice.specs.Rows.{checkRows}
 use Rattle.export.specs.Face.{CountGiven, NumberGiven}
 
-pub count-given : {row n r v : ℕ} {a : Count} → IsCount row n a → r ≡ refusalOf a → v ≡ countIn a → CountGiven row n r (v ∷ [])
+pub count-given : {row n r v : ℕ} {a : Count} → IsCount row n a → r ≡ countRefusal a → v ≡ countValue a → CountGiven row n r (v ∷ [])
 count-given h e f = record { refusal = e ∙ h .refusal; array = ap (λ (k : ℕ). k ∷ []) (f ∙ h .value) }
 
-pub number-given : {row r : ℕ} {x v : Float} {a : Number} → IsNumber row x a → r ≡ refusalIn a → v ≡ valueIn a → NumberGiven row x r (v ∷ [])
+pub number-given : {row r : ℕ} {x v : Float} {a : Number} → IsNumber row x a → r ≡ numberRefusal a → v ≡ numberValue a → NumberGiven row x r (v ∷ [])
 number-given h e f = record { refusal = e ∙ h .refusal; array = ap (λ (k : Float). k ∷ []) (f ∙ h .value) }
 
 -- ## The link check's count
@@ -45,6 +45,6 @@ module _ (d : List ℕ) (four : length d ≡ 4) (U : Field) where
   of-row (suc r) h = omega arith
 
   -- so the count fits 32 bits
-  pub count-low : (long room : ℕ) {v : ℕ} {a : Count} → IsCount (firstRow (checkRows d long room)) (length (unsoundLinks d U)) a → v ≡ countIn a → v ≤ 262144
+  pub count-low : (long room : ℕ) {v : ℕ} {a : Count} → IsCount (firstRow (checkRows d long room)) (length (unsoundLinks d U)) a → v ≡ countValue a → v ≤ 262144
   unfolding badExtents
   count-low long room h e = rw (e, h .value) (of-row (firstRow (checkRows d long room)) (λ p. few (fits (fitsOf d) _ p)))

@@ -1,5 +1,5 @@
 ghost use mathlib.Core.Path.{_≡_};
-ghost use Rattle.rows.specs.Answers.{refusalOf, countIn, refusalIn, valueIn};
+ghost use Rattle.rows.specs.Answers.{countRefusal, countValue, numberRefusal, numberValue};
 ghost use Rattle.export.specs.Face.{matrixIn, blockIn, quatIn, pairNumbers, matrixNumbers, blockNumbers, quatNumbers};
 use mat::C64;
 use mat::Mat2;
@@ -125,7 +125,7 @@ pub fn pair_numbers(z: C64) -> [f64; 2]
 // An enum answer as its two numbers.
 
 pub fn count_refusal(answer: Count) -> u32
-    ensures { λ r. ⌜ r ≡ refusalOf answer ⌝ }
+    ensures { λ r. ⌜ r ≡ countRefusal answer ⌝ }
 {
     match answer {
         Count::Value(_) => 0,
@@ -134,7 +134,7 @@ pub fn count_refusal(answer: Count) -> u32
 }
 
 pub fn count_value(answer: Count) -> usize
-    ensures { λ r. ⌜ r ≡ countIn answer ⌝ }
+    ensures { λ r. ⌜ r ≡ countValue answer ⌝ }
 {
     match answer {
         Count::Value(n) => n,
@@ -143,7 +143,7 @@ pub fn count_value(answer: Count) -> usize
 }
 
 pub fn number_refusal(answer: Number) -> u32
-    ensures { λ r. ⌜ r ≡ refusalIn answer ⌝ }
+    ensures { λ r. ⌜ r ≡ numberRefusal answer ⌝ }
 {
     match answer {
         Number::Value(_) => 0,
@@ -152,7 +152,7 @@ pub fn number_refusal(answer: Number) -> u32
 }
 
 pub fn number_value(answer: Number) -> f64
-    ensures { λ r. ⌜ r ≡ valueIn answer ⌝ }
+    ensures { λ r. ⌜ r ≡ numberValue answer ⌝ }
 {
     match answer {
         Number::Value(x) => x,

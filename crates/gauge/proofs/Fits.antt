@@ -14,7 +14,7 @@ use Rattle.links.specs.Field.{Field}
 use Rattle.mat.specs.Rounded.{_⊞_, fzero}
 use Rattle.mat.specs.Matrix.{reTr}
 use Rattle.gauge.specs.Plaquette.{Corners, plaquetteAt, plaquetteOf, planesSum}
-use Rattle.gauge.specs.Staple.{Ring}
+use Rattle.gauge.specs.Staple.{StapleSites}
 
 module _ (d : List ℕ) (l : List Float) (holds : Holds d l) where
   pub sized : Sized l (volume d)
@@ -31,7 +31,7 @@ module _ (d : List ℕ) (l : List Float) (holds : Holds d l) where
       aside = fwd-below d (holds .shape) n nu other;
     }
 
-    pub ring : (nu ≡ mu → ⊥) → Ring l (volume d) mu nu n (fwdOf d n mu) (fwdOf d n nu) (bwdOf d n nu) (bwdOf d (fwdOf d n mu) nu)
+    pub ring : (nu ≡ mu → ⊥) → StapleSites l (volume d) mu nu n (fwdOf d n mu) (fwdOf d n nu) (bwdOf d n nu) (bwdOf d (fwdOf d n mu) nu)
     ring apart = record {
       sized = sized;
       axis = axis;

@@ -4,10 +4,9 @@ use mathlib.Core.List.{List}
 use lib.Ieee.{Float, binary64, add, div, ofBits}
 use Rattle.loops.specs.Loops.{foldTo}
 use Rattle.mat.specs.declared.Su3.{Su3}
-use Rattle.mat.specs.Rounded.{_⊞_, _⊟_, _⊠_, fzero, fone, fthree}
+use Rattle.mat.specs.Rounded.{_⊞_, _⊟_, _⊠_, fzero, fone, fthree, asFloat}
 use Rattle.mat.specs.Matrix.{reTr}
 use Rattle.mat.specs.Product.{rowRow, mulOf, mulDagOf}
-use Rattle.mat.specs.Exponential.{asFloat}
 use Rattle.geometry.specs.Radix.{volume}
 use Rattle.geometry.specs.Steps.{fwdOf}
 use Rattle.links.specs.Store.{matrixAt}
@@ -47,7 +46,7 @@ sitesSum d U k = foldTo (add binary64) fzero (λ n. planesSum d U n) k
 abbrev pub fsix : Float
 fsix = ofBits binary64 0x4018_0000_0000_0000
 
--- ⟨Re Tr U_P⟩ / 3: the sum over sites · 6 · 3
+-- ⟨Re Tr U_P⟩ / 3: the sum, divided by (sites · 6) · 3
 unfoldable pub averageOf : List ℕ → Field → Float
 averageOf d U = div binary64 (sitesSum d U (volume d)) (asFloat (volume d) ⊠ fsix ⊠ fthree)
 

@@ -5,11 +5,10 @@ use lib.ListN.{getD, drop}
 use Rattle.loops.specs.Loops.{foldTo}
 use Rattle.mat.specs.declared.C64.{C64}
 use Rattle.mat.specs.declared.Su3.{Su3}
-use Rattle.mat.specs.Rounded.{_⊠_, fthree, inverse}
+use Rattle.mat.specs.Rounded.{_⊠_, fthree, inverse, asFloat}
 use Rattle.mat.specs.Complex.{czero, cadd, cscale}
 use Rattle.mat.specs.Matrix.{identityOf, traceOf}
 use Rattle.mat.specs.Product.{mulOf}
-use Rattle.mat.specs.Exponential.{asFloat}
 use Rattle.geometry.specs.Radix.{volume, coordsOf, indexOf}
 use Rattle.geometry.specs.Steps.{fwdOf}
 use Rattle.links.specs.Field.{Field}
@@ -33,9 +32,9 @@ abbrev pub slicePlace : List ℕ → ℕ → ℕ
 slicePlace d k = indexOf d (0 ∷ coordsOf (space d) k)
 
 -- the trace of the line around time at the k-th place
-unfoldable pub loopOf : List ℕ → Field → ℕ → C64
-loopOf d U k = traceOf (timeLineOf d U (slicePlace d k) (getD d 0 0))
+unfoldable pub polyakovTrace : List ℕ → Field → ℕ → C64
+polyakovTrace d U k = traceOf (timeLineOf d U (slicePlace d k) (getD d 0 0))
 
 -- ⟨Tr Π U_0⟩ / 3 over all places of space: the sum from 0, times 1 / (3 · places)
 unfoldable pub polyakovOf : List ℕ → Field → C64
-polyakovOf d U = cscale (foldTo cadd czero (λ k. loopOf d U k) (volume (space d))) (inverse (fthree ⊠ asFloat (volume (space d))))
+polyakovOf d U = cscale (foldTo cadd czero (λ k. polyakovTrace d U k) (volume (space d))) (inverse (fthree ⊠ asFloat (volume (space d))))

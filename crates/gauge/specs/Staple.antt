@@ -37,7 +37,7 @@ unfoldable pub stapleOf : List ℕ → Field → ℕ → ℕ → Su3
 stapleOf d U n mu = staplesTo d U n mu 4
 
 -- the sites of the two staples are sites
-pub record Ring (l : List Float) (v mu nu n f u b s : ℕ) : Type 0 where
+pub record StapleSites (l : List Float) (v mu nu n f u b s : ℕ) : Type 0 where
   pub sized : Sized l v
   pub axis : mu < 4
   pub other : nu < 4

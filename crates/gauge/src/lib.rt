@@ -6,7 +6,7 @@ mod sound;
 mod staples;
 
 pub use plaquettes::action;
-pub use plaquettes::average;
+pub use plaquettes::average_plaquette;
 pub use plaquettes::plaquette;
 pub use polyakov::polyakov_loop;
 pub use sound::list_unsound;

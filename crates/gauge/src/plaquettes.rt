@@ -7,7 +7,7 @@ ghost use Rattle.mat.specs.Matrix.{reTr};
 ghost use Rattle.geometry.specs.Radix.{volume};
 ghost use Rattle.geometry.specs.Steps.{nearOf};
 ghost use Rattle.links.specs.Field.{fieldOf};
-ghost use Rattle.links.specs.Store.{Two};
+ghost use Rattle.links.specs.Store.{TwoMatrices};
 ghost use Rattle.gauge.specs.Field.{linkOf, Holds, Plane};
 ghost use Rattle.gauge.specs.Plaquette.{plaquetteAt, diagonalAt, plaquetteOf, planesSum, averageOf, actionOf, Corners};
 
@@ -26,7 +26,7 @@ pub fn plaquette(links: &[f64], d: [usize; 4], n: usize, mu: usize, nu: usize) -
 
 // The real part of the i-th entry on the diagonal of a·b·(c·e)†, for matrices at four places.
 fn diagonal(links: &[f64], a: usize, b: usize, c: usize, e: usize, i: usize) -> f64
-    requires { ⌜ Two (now links) a b × Two (now links) c e × (i < 3) ⌝ }
+    requires { ⌜ TwoMatrices (now links) a b × TwoMatrices (now links) c e × (i < 3) ⌝ }
     ensures { λ r. ⌜ r ≡ diagonalAt (now (links .entry)) a b c e i ⌝ }
 {
     let mut s = C64::ZERO;
@@ -45,7 +45,7 @@ fn diagonal(links: &[f64], a: usize, b: usize, c: usize, e: usize, i: usize) -> 
 // The sum of the first two of these. Two rows are worked out side by side, which is what the
 // machine's pairs of f64 are for.
 fn first_two(links: &[f64], a: usize, b: usize, c: usize, e: usize) -> f64
-    requires { ⌜ Two (now links) a b × Two (now links) c e ⌝ }
+    requires { ⌜ TwoMatrices (now links) a b × TwoMatrices (now links) c e ⌝ }
     ensures { λ r. ⌜ r ≡ diagonalAt (now (links .entry)) a b c e 0 ⊞ diagonalAt (now (links .entry)) a b c e 1 ⌝ }
 {
     let mut s = C64::ZERO;
@@ -100,7 +100,7 @@ fn planes_sum(links: &[f64], d: [usize; 4], v: usize, n: usize, up: [usize; 4]) 
 }
 
 // ⟨Re Tr U_P⟩ / 3 over all sites and planes. The coordinates are carried along: no division.
-pub fn average(links: &[f64], d: [usize; 4]) -> f64
+pub fn average_plaquette(links: &[f64], d: [usize; 4]) -> f64
     requires { ⌜ Holds d (now links) ⌝ }
     ensures { λ r. ⌜ r ≡ averageOf d (linkOf d (now (links .entry))) ⌝ }
 {
@@ -124,5 +124,5 @@ pub fn action(links: &[f64], d: [usize; 4], beta: f64) -> f64
     ensures { λ r. ⌜ r ≡ actionOf d (linkOf d (now (links .entry))) beta ⌝ }
 {
     let n = (geometry::sites(d) as u32) as f64;
-    beta * 6.0 * n * (1.0 - average(links, d))
+    beta * 6.0 * n * (1.0 - average_plaquette(links, d))
 }

@@ -4,12 +4,12 @@ ghost use mathlib.Core.Path.{_≡_};
 ghost use Prim.Native.Nat.{_*_, _<_};
 ghost use Rattle.geometry.specs.Radix.{volume};
 ghost use Rattle.gauge.specs.Field.{linkOf, Holds};
-ghost use Rattle.gauge.specs.Polyakov.{space, loopOf, polyakovOf};
+ghost use Rattle.gauge.specs.Polyakov.{space, polyakovTrace, polyakovOf};
 
 // The trace of the line around time at the k-th place of space. Its sites have following numbers.
 fn loop_trace(links: &[f64], d: [usize; 4], v: usize, k: usize) -> C64
     requires { ⌜ Holds d (now links) × (v ≡ volume d) × (k < volume (space d)) ⌝ }
-    ensures { λ r. ⌜ r ≡ loopOf d (linkOf d (now (links .entry))) k ⌝ }
+    ensures { λ r. ⌜ r ≡ polyakovTrace d (linkOf d (now (links .entry))) k ⌝ }
 {
     let nt = d[0];
     let first = nt * k;

@@ -3,7 +3,7 @@ ghost use mathlib.Core.Path.{_≡_};
 ghost use Rattle.mat.specs.Matrix.{addOf};
 ghost use Rattle.links.specs.Field.{fieldOf};
 ghost use Rattle.gauge.specs.Field.{linkOf, Link};
-ghost use Rattle.gauge.specs.Staple.{upperAt, lowerAt, stapleOf, Ring};
+ghost use Rattle.gauge.specs.Staple.{upperAt, lowerAt, stapleOf, StapleSites};
 
 // a, and then the two staples in the plane of mu and nu. The sites: n, f = n + mu, u = n + nu,
 // b = n - nu, s = n + mu - nu.
@@ -19,7 +19,7 @@ fn add_staples(
     s: usize,
     a: Su3,
 ) -> Su3
-    requires { ⌜ Ring (now links) v mu nu n f u b s ⌝ }
+    requires { ⌜ StapleSites (now links) v mu nu n f u b s ⌝ }
     ensures { λ r. ⌜ r ≡ addOf (addOf a (upperAt (fieldOf v (now (links .entry))) mu nu n f u)) (lowerAt (fieldOf v (now (links .entry))) mu nu b s) ⌝ }
 {
     let upper = links::mul_dag_by(

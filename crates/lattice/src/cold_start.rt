@@ -8,7 +8,7 @@ ghost use lib.ListN.{length};
 ghost use Rattle.lattice.specs.Cold.{identities, ColdCall};
 
 // Sets every one of the list's links to the identity.
-fn freeze(links: &mut [f64], count: usize)
+fn set_identities(links: &mut [f64], count: usize)
     requires { ⌜ length (now links) ≡ 18 * count ⌝ }
     ensures { λ _. ⌜ now (links .exit) ≡ identities count ⌝ }
 {
@@ -32,7 +32,7 @@ pub fn cold(extents: [usize; 4], coupling: f64, seed: u64, links: &mut [f64]) ->
         };
         return ColdAnswer { refusal: row, plan };
     }
-    freeze(links, 4 * geometry::sites(extents));
+    set_identities(links, 4 * geometry::sites(extents));
     let plan = Plan {
         extents,
         coupling,

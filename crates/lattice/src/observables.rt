@@ -105,7 +105,7 @@ pub fn average_plaquette(extents: [usize; 4], links: &[f64]) -> Number
     if row != 0 {
         return Number::Refused(row);
     }
-    let average = gauge::average(links, extents);
+    let average = gauge::average_plaquette(links, extents);
     judged_number(average)
 }
 

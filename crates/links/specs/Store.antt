@@ -25,7 +25,7 @@ unfoldable pub withMatrix : List Float → ℕ → Su3 → List Float
 withMatrix l p u = iterTo (λ k m. putCell m (p + 2 * k) (ent u k)) l 9
 
 -- two places have room for a matrix each
-pub record Two (l : List Float) (a b : ℕ) : Type 0 where
+pub record TwoMatrices (l : List Float) (a b : ℕ) : Type 0 where
   pub first : a + 18 ≤ length l
   pub second : b + 18 ≤ length l
 

@@ -1,4 +1,5 @@
-// The matrices of a lent list of numbers. What knows where a link's numbers stand is here alone.
+// The matrices of a lent list of numbers: every read and every store of a link goes through here. `place`
+// has where the link of a direction at a site begins; links follow each other by eighteen numbers.
 mod products;
 
 use mat::C64;

@@ -5,13 +5,13 @@ ghost use Prim.Native.Nat.{_+_, _<_, _≤_};
 ghost use lib.ListN.{length};
 ghost use Rattle.mat.specs.Matrix.{daggerOf};
 ghost use Rattle.mat.specs.Product.{rowCol, rowRow, colCol, mulOf, mulDagOf, dagMulOf};
-ghost use Rattle.links.specs.Store.{matrixAt, Two};
+ghost use Rattle.links.specs.Store.{matrixAt, TwoMatrices};
 
 // Products of matrices where they stand: a matrix that is loaded first is copied.
 
 // Entry (i, j) of a·b, where a and b stand at two places.
 pub fn mul_entry_at(links: &[f64], a: usize, b: usize, i: usize, j: usize) -> C64
-    requires { ⌜ Two (now links) a b × (i < 3) × (j < 3) ⌝ }
+    requires { ⌜ TwoMatrices (now links) a b × (i < 3) × (j < 3) ⌝ }
     ensures { λ r. ⌜ r ≡ rowCol (matrixAt (now (links .entry)) a) (matrixAt (now (links .entry)) b) i j ⌝ }
 {
     let mut s = C64::ZERO;
@@ -26,7 +26,7 @@ pub fn mul_entry_at(links: &[f64], a: usize, b: usize, i: usize, j: usize) -> C6
 
 // Entry (i, j) of a·b†, where a and b stand at two places.
 fn mul_dag_entry_at(links: &[f64], a: usize, b: usize, i: usize, j: usize) -> C64
-    requires { ⌜ Two (now links) a b × (i < 3) × (j < 3) ⌝ }
+    requires { ⌜ TwoMatrices (now links) a b × (i < 3) × (j < 3) ⌝ }
     ensures { λ r. ⌜ r ≡ rowRow (matrixAt (now (links .entry)) a) (matrixAt (now (links .entry)) b) i j ⌝ }
 {
     let mut s = C64::ZERO;
@@ -41,7 +41,7 @@ fn mul_dag_entry_at(links: &[f64], a: usize, b: usize, i: usize, j: usize) -> C6
 
 // Entry (i, j) of a†·b†, where a and b stand at two places.
 fn dag_mul_dag_entry_at(links: &[f64], a: usize, b: usize, i: usize, j: usize) -> C64
-    requires { ⌜ Two (now links) a b × (i < 3) × (j < 3) ⌝ }
+    requires { ⌜ TwoMatrices (now links) a b × (i < 3) × (j < 3) ⌝ }
     ensures { λ r. ⌜ r ≡ colCol (matrixAt (now (links .entry)) a) (daggerOf (matrixAt (now (links .entry)) b)) i j ⌝ }
 {
     let mut s = C64::ZERO;
@@ -83,7 +83,7 @@ fn mul_dag_entry_by(a: Su3, links: &[f64], b: usize, i: usize, j: usize) -> C64
 
 // a·b, of the matrices at two places.
 pub fn mul_at(links: &[f64], a: usize, b: usize) -> Su3
-    requires { ⌜ Two (now links) a b ⌝ }
+    requires { ⌜ TwoMatrices (now links) a b ⌝ }
     ensures { λ r. ⌜ r ≡ mulOf (matrixAt (now (links .entry)) a) (matrixAt (now (links .entry)) b) ⌝ }
 {
     let m = [
@@ -102,7 +102,7 @@ pub fn mul_at(links: &[f64], a: usize, b: usize) -> Su3
 
 // a·b†, of the matrices at two places.
 pub fn mul_dag_at(links: &[f64], a: usize, b: usize) -> Su3
-    requires { ⌜ Two (now links) a b ⌝ }
+    requires { ⌜ TwoMatrices (now links) a b ⌝ }
     ensures { λ r. ⌜ r ≡ mulDagOf (matrixAt (now (links .entry)) a) (matrixAt (now (links .entry)) b) ⌝ }
 {
     let m = [
@@ -121,7 +121,7 @@ pub fn mul_dag_at(links: &[f64], a: usize, b: usize) -> Su3
 
 // a†·b†, of the matrices at two places.
 pub fn dag_mul_dag_at(links: &[f64], a: usize, b: usize) -> Su3
-    requires { ⌜ Two (now links) a b ⌝ }
+    requires { ⌜ TwoMatrices (now links) a b ⌝ }
     ensures { λ r. ⌜ r ≡ dagMulOf (matrixAt (now (links .entry)) a) (daggerOf (matrixAt (now (links .entry)) b)) ⌝ }
 {
     let m = [

@@ -14,10 +14,10 @@ use Rattle.mat.specs.declared.C64.{C64}
 use Rattle.mat.specs.declared.Su3.{Su3}
 use Rattle.mat.specs.declared.Mat2.{Mat2}
 use Rattle.mat.specs.declared.Subgroup.{Subgroup}
-use Rattle.mat.specs.Rounded.{inverse}
+use Rattle.mat.specs.Rounded.{inverse, asFloat}
 use Rattle.mat.specs.Matrix.{tabulate, each, zeros, zeroOf, identityOf, scaleOf, addOf}
 use Rattle.mat.specs.Product.{mulOf}
-use Rattle.mat.specs.Exponential.{asFloat, termOf, seriesOf}
+use Rattle.mat.specs.Exponential.{termOf, seriesOf}
 use Rattle.mat.specs.Subgroup.{subgroupOf, subgroupRow}
 use Rattle.mat.specs.Answers.{matrixAnswer, zeroBlock, blockAnswer}
 

@@ -1,16 +1,10 @@
 -- The exponential of an anti-Hermitian traceless matrix: a sum of its series, projected onto SU(3).
 use Prim.Native.Nat.{ℕ, zero, suc}
-use lib.Ieee.{Float, binary64, ofInt}
-use lib.IntN.{pos}
 use Rattle.mat.specs.declared.Su3.{Su3}
-use Rattle.mat.specs.Rounded.{inverse}
+use Rattle.mat.specs.Rounded.{inverse, asFloat}
 use Rattle.mat.specs.Matrix.{identityOf, scaleOf, addOf}
 use Rattle.mat.specs.Product.{mulOf}
 use Rattle.mat.specs.Unitary.{reunitarizeOf}
-
--- n as an f64
-abbrev pub asFloat : ℕ → Float
-asFloat n = ofInt binary64 (pos n)
 
 -- qⁿ/n!: the term before it, times q, times 1/n
 unfoldable pub termOf : Su3 → ℕ → Su3

@@ -1,5 +1,7 @@
 -- Sum, difference and product of two f64, each rounded once to the nearest, and the numbers that the formulas name.
-use lib.Ieee.{Float, binary64, add, sub, mul, div, ofBits}
+use Prim.Native.Nat.{ℕ}
+use lib.Ieee.{Float, binary64, add, sub, mul, div, ofInt, ofBits}
+use lib.IntN.{pos}
 
 infixl 6 _⊞_
 abbrev pub _⊞_ : Float → Float → Float
@@ -29,3 +31,7 @@ fthree = ofBits binary64 0x4008_0000_0000_0000
 -- 1 / x
 abbrev pub inverse : Float → Float
 inverse x = div binary64 fone x
+
+-- n as an f64
+abbrev pub asFloat : ℕ → Float
+asFloat n = ofInt binary64 (pos n)

@@ -1,6 +1,14 @@
 ghost use mathlib.Core.Path.{_≡_};
 ghost use Rattle.mat.specs.Complex.{complexOf, conjOf, normSqr, cscale, cadd, csub, cmul, cneg, finiteEntry};
+ghost use Rattle.mat.specs.Rounded.{fzero, fone};
 use crate::C64;
+
+// The constants of `C64`.
+struct Units {
+    zero: C64,
+    one: C64,
+    i: C64,
+}
 
 impl C64 {
     pub const ZERO: Self = Self { re: 0.0, im: 0.0 };
@@ -84,5 +92,16 @@ impl C64 {
         } else {
             false
         }
+    }
+}
+
+// Not called: it says of the constants what they are.
+fn constants() -> Units
+    ensures { λ r. ⌜ r ≡ record { zero = complexOf fzero fzero; one = complexOf fone fzero; i = complexOf fzero fone } ⌝ }
+{
+    Units {
+        zero: C64::ZERO,
+        one: C64::ONE,
+        i: C64::I,
     }
 }

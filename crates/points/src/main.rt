@@ -98,10 +98,18 @@ fn xoshiro256(tally: Tally, wanted: &[u64; 10]) -> Tally {
     t
 }
 
-// The number of sites, or the row that refuses the extents.
-fn sites_or_row(extents: [usize; 4]) -> u64 {
+// The number of sites, and 0 where the extents are refused.
+fn sites(extents: [usize; 4]) -> u64 {
     match lattice::n_sites(extents) {
         rows::Count::Value(n) => n as u64,
+        rows::Count::Refused(row) => 0,
+    }
+}
+
+// The row that refuses the extents, and 0 where none does.
+fn refusal(extents: [usize; 4]) -> u64 {
+    match lattice::n_sites(extents) {
+        rows::Count::Value(n) => 0,
         rows::Count::Refused(row) => row as u64,
     }
 }
@@ -123,12 +131,8 @@ fn main() {
         f64::to_bits(top),
         0x3fef_ffff_ffff_ffff,
     );
-    let t = t.whole(b"sites of 16 2 2 2 ", sites_or_row([16, 2, 2, 2]), 128);
-    let t = t.whole(
-        b"row that refuses 18 2 2 2 ",
-        sites_or_row([18, 2, 2, 2]),
-        1,
-    );
+    let t = t.whole(b"sites of 16 2 2 2 ", sites([16, 2, 2, 2]), 128);
+    let t = t.whole(b"row that refuses 18 2 2 2 ", refusal([18, 2, 2, 2]), 1);
     io::print_decimal(1, t.compared as u64);
     io::write_all(1, b" compared, ");
     io::print_decimal(1, t.differ as u64);

@@ -8,7 +8,7 @@ use lib.Ieee.{Float}
 use Rattle.rows.specs.declared.Number.{Number}
 use Rattle.rows.specs.declared.Count.{Count}
 use Rattle.rows.specs.Rows.{firstRow, ifAccepted, finally, Judged}
-use Rattle.rows.specs.Answers.{refusalIn, valueIn, numberOf, IsNumber, refusalOf, countIn, countOf, IsCount}
+use Rattle.rows.specs.Answers.{numberRefusal, numberValue, numberOf, IsNumber, countRefusal, countValue, countOf, IsCount}
 
 -- ## the first row
 
@@ -64,12 +64,12 @@ module _ {rows : List (Bool × ℕ)} {Facts : Type 0} where
 -- ## answers that are an enum
 
 pub is-number : (row : ℕ) (x : Float) {r : Number} → r ≡ numberOf row x → IsNumber row x r
-unfolding refusalIn valueIn numberOf ifAccepted
+unfolding numberRefusal numberValue numberOf ifAccepted
 is-number zero x e = record { refusal = rw e; value = rw e; case = e }
 is-number (suc k) x e = record { refusal = rw e; value = rw e; case = e }
 
 pub is-count : (row n : ℕ) {r : Count} → r ≡ countOf row n → IsCount row n r
-unfolding refusalOf countIn countOf ifAccepted
+unfolding countRefusal countValue countOf ifAccepted
 is-count zero n e = record { refusal = rw e; value = rw e; case = e }
 is-count (suc k) n e = record { refusal = rw e; value = rw e; case = e }
 

@@ -10,7 +10,7 @@ cast-n c = let high = volume-high _ (c .before .before .pre .shape) in let v = c
 
 returns : tie.Need-returns
 unfolding actionOf
-returns c = rw (c .average .ensures, c .before .before .sites .ensures)
+returns c = rw (c .average-plaquette .ensures, c .before .before .sites .ensures)
 
 pub action-spec : {M : Type 1} → statement M
 action-spec = tie.close (tie.spec (λ c κs. search needs) cast-n (λ c. search needs) (λ c κs. search needs) returns)

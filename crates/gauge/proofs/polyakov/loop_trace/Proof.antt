@@ -6,7 +6,7 @@ use native.Mathlib.Omega.{arith}
 use Rattle.geometry.proofs.Shape.{axis-in, volume-high}
 use Rattle.links.specs.Field.{fieldOf}
 use Rattle.links.proofs.Laws.{room-at}
-use Rattle.gauge.specs.Polyakov.{loopOf}
+use Rattle.gauge.specs.Polyakov.{polyakovTrace}
 use Rattle.gauge.proofs.Fits.{sized}
 use Rattle.gauge.proofs.TimeLine.{lineBy, line-none, line-next, line-below, line-by}
 use Rattle.gauge.proofs.polyakov.loop_trace.Statement.{statement}
@@ -47,7 +47,7 @@ loop-again : tie.Need-loop-again Inv-loop μ-loop
 loop-again c = (omega arith, line-next _ _ _ (c .before .before .before .loop .inv .1) (rw (c .before .place .ensures) at (c .mul-by .ensures)))
 
 returns : tie.Need-returns Inv-loop μ-loop
-unfolding loopOf
+unfolding polyakovTrace
 returns c =
     let q = c .before .before .before .before .pre in
     let e : c .before .before .loop .t ≡ getD (c .before .before .before .before .args .t2) 0 0 = omega arith in

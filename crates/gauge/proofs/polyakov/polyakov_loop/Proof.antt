@@ -7,13 +7,13 @@ use Rattle.loops.specs.Loops.{foldTo}
 use Rattle.loops.proofs.Laws.{fold-none, fold-next}
 use Rattle.mat.specs.Complex.{czero, cadd}
 use Rattle.gauge.specs.Field.{linkOf}
-use Rattle.gauge.specs.Polyakov.{loopOf, polyakovOf}
+use Rattle.gauge.specs.Polyakov.{polyakovTrace, polyakovOf}
 use Rattle.gauge.proofs.TimeLine.{places-are, places-small}
 use Rattle.gauge.proofs.polyakov.polyakov_loop.Statement.{statement}
 use Rattle.gauge.proofs.polyakov.polyakov_loop.Tie as tie
 
 abbrev Inv-loop : tie.InvT-loop
-Inv-loop links d v places s₀ k₀ s k = (k ≤ places) × (s ≡ foldTo cadd czero (λ k. loopOf d (linkOf d links) k) k)
+Inv-loop links d v places s₀ k₀ s k = (k ≤ places) × (s ≡ foldTo cadd czero (λ k. polyakovTrace d (linkOf d links) k) k)
 
 abbrev μ-loop : tie.MeasureT-loop
 μ-loop links d v places s₀ k₀ s k = places - k

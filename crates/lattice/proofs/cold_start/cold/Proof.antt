@@ -14,11 +14,11 @@ returns c = let same = c .before .plan-row .ensures .row in record { answer = rw
 sites-requires : tie.Need-sites-requires
 sites-requires c κs = c .before .before .plan-row .ensures .accepted (c .before .if1 .left) .0
 
-mul-freeze : tie.Need-mul-freeze
-mul-freeze c = let f = c .before .before .before .plan-row .ensures .accepted (c .before .before .if1 .left) in let high = volume-high _ (f .0) in rw (c .sites .ensures) (omega arith)
+mul-set-identities : tie.Need-mul-set-identities
+mul-set-identities c = let f = c .before .before .before .plan-row .ensures .accepted (c .before .before .if1 .left) in let high = volume-high _ (f .0) in rw (c .sites .ensures) (omega arith)
 
-freeze-requires : tie.Need-freeze-requires
-freeze-requires c κs = let f = c .before .before .before .plan-row .ensures .accepted (c .before .before .if1 .left) in let e = c .sites .ensures in omega (arith, f .1)
+set-identities-requires : tie.Need-set-identities-requires
+set-identities-requires c κs = let f = c .before .before .before .plan-row .ensures .accepted (c .before .before .if1 .left) in let e = c .sites .ensures in omega (arith, f .1)
 
 returns-2 : tie.Need-returns-2
 unfolding coldAnswer coldLinks
@@ -27,8 +27,8 @@ returns-2 c =
     let none = c .before .before .before .before .before .if1 .left in
     record {
       answer = rw (← same, none, if-accepted _ _ refl);
-      links = rw (← same, if-accepted _ _ none, c .before .before .freeze .ensures, c .before .before .before .sites .ensures);
+      links = rw (← same, if-accepted _ _ none, c .before .before .set-identities .ensures, c .before .before .before .sites .ensures);
     }
 
 pub cold-spec : {M : Type 1} → statement M
-cold-spec = tie.close (tie.spec (λ c κs. search needs) returns sites-requires mul-freeze freeze-requires (λ c. search needs) returns-2)
+cold-spec = tie.close (tie.spec (λ c κs. search needs) returns sites-requires mul-set-identities set-identities-requires (λ c. search needs) returns-2)

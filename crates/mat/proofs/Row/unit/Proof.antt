@@ -1,10 +1,11 @@
-use Rattle.mat.specs.Row.{unitRow}
+use Rattle.mat.specs.Complex.{cscale}
+use Rattle.mat.specs.Row.{rowScale, unitRow}
 use borrow.Author.Needs.{needs}
 use Rattle.mat.proofs.Row.unit.Statement.{statement}
 use Rattle.mat.proofs.Row.unit.Tie as tie
 
 returns : tie.Need-returns
-unfolding unitRow
+unfolding unitRow rowScale cscale
 returns c = rw (c .scale .ensures, c .before .sqrt .ensures, c .before .before .norm-sqr .ensures)
 
 pub unit-spec : {M : Type 1} → statement M

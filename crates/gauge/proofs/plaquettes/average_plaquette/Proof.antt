@@ -8,8 +8,8 @@ use Rattle.geometry.proofs.Radix.{coords-within, coords-zero, next-coords}
 use Rattle.geometry.proofs.Shape.{volume-pos, volume-high}
 use Rattle.gauge.specs.Field.{linkOf}
 use Rattle.gauge.specs.Plaquette.{sitesSum, averageOf}
-use Rattle.gauge.proofs.plaquettes.average.Statement.{statement}
-use Rattle.gauge.proofs.plaquettes.average.Tie as tie
+use Rattle.gauge.proofs.plaquettes.average_plaquette.Statement.{statement}
+use Rattle.gauge.proofs.plaquettes.average_plaquette.Tie as tie
 
 abbrev Inv-loop : tie.InvT-loop
 Inv-loop links d v s c₀ sum₀ n₀ c sum n = (n ≤ v) × (c ≡ coordsOf d n) × (sum ≡ sitesSum d (linkOf d links) n)
@@ -44,5 +44,5 @@ returns c =
     let e : c .before .before .loop .n ≡ c .before .before .before .before .sites .result = omega arith in
     rw (c .before .before .loop .inv .2, e, c .before .before .before .before .sites .ensures)
 
-pub average-spec : {M : Type 1} → statement M
-average-spec = tie.close (tie.spec Inv-loop μ-loop (λ c κs. search needs) (λ c κs. search needs) loop-holds neighbours-at-requires planes-sum-requires next-requires (λ c. search needs) (λ c. search needs) loop-again cast-result (λ c. search needs) returns)
+pub average-plaquette-spec : {M : Type 1} → statement M
+average-plaquette-spec = tie.close (tie.spec Inv-loop μ-loop (λ c κs. search needs) (λ c κs. search needs) loop-holds neighbours-at-requires planes-sum-requires next-requires (λ c. search needs) (λ c. search needs) loop-again cast-result (λ c. search needs) returns)

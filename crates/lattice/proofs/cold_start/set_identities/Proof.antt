@@ -5,8 +5,8 @@ use native.Mathlib.Omega.{arith}
 use lib.ListN.{length}
 use Rattle.links.proofs.Laws.{length-withMatrix}
 use Rattle.lattice.proofs.Frozen.{frozen, frozen-none, frozen-next, frozen-done}
-use Rattle.lattice.proofs.cold_start.freeze.Statement.{statement}
-use Rattle.lattice.proofs.cold_start.freeze.Tie as tie
+use Rattle.lattice.proofs.cold_start.set_identities.Statement.{statement}
+use Rattle.lattice.proofs.cold_start.set_identities.Tie as tie
 
 abbrev Inv-loop : tie.InvT-loop
 Inv-loop links₀ count k₀ links k = (k ≤ count) × (length links ≡ length links₀) × (links ≡ frozen links₀ k)
@@ -41,5 +41,5 @@ returns c =
     let e : c .before .loop .k ≡ c .before .before .before .args .count = omega arith in
     frozen-done _ _ q (rw e at (c .before .loop .inv .2))
 
-pub freeze-spec : {M : Type 1} → statement M
-freeze-spec = tie.close (tie.spec Inv-loop μ-loop loop-holds mul-store store-requires (λ c. search needs) (λ c. search needs) loop-again same-length returns)
+pub set-identities-spec : {M : Type 1} → statement M
+set-identities-spec = tie.close (tie.spec Inv-loop μ-loop loop-holds mul-store store-requires (λ c. search needs) (λ c. search needs) loop-again same-length returns)
