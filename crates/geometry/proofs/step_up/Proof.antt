@@ -6,7 +6,7 @@ use Rattle.geometry.proofs.step_up.Statement.{statement}
 use Rattle.geometry.proofs.step_up.Tie as tie
 
 sub-result : tie.Need-sub-result
-sub-result c = omega (arith, c .before .pre .last (c .if1 .left))
+sub-result c = omega (arith, c .before .pre .last (omega (arith, c .if1 .left)))
 
 returns : tie.Need-returns
 unfolding upOf
