@@ -1,5 +1,5 @@
 -- A staple reads the links of its six staples alone, and none of the links that a half-sweep of its direction and parity writes.
-use Prim.Native.Nat.{ℕ, zero, suc, _+_, _<_, _≤_}
+use Prim.Native.Nat.{ℕ, zero, suc, _≤_}
 use mathlib.Core.Bool.{cond}
 use mathlib.Core.List.{List}
 use mathlib.Core.Path.{_≡_, refl}
@@ -7,12 +7,10 @@ use native.Mathlib.Decide.{ℕ-discrete}
 use native.Mathlib.Omega.{arith}
 use lib.Dec.{eqb}
 use borrow.Author.Tests.{eq-eqb, ne-eqb}
-use Rattle.geometry.specs.Radix.{volume}
-use Rattle.geometry.specs.Shape.{Shape}
-use Rattle.geometry.specs.Steps.{fwdOf, bwdOf, parityOf}
+use Rattle.geometry.specs.Steps.{fwdOf, bwdOf}
 use Rattle.geometry.proofs.Neighbour.{fwd-below, bwd-below, fwd-flips, bwd-flips}
 use Rattle.links.specs.Field.{Field}
-use Rattle.gauge.specs.Staple.{addStaples, staplesTo, stapleOf, SameAround, SameOff, StapleIsLocal, NoneAround}
+use Rattle.gauge.specs.Staple.{addStaples, staplesTo, stapleOf, SameAround, StapleIsLocal, NoneAround}
 
 module _ (d : List ℕ) (U W : Field) (n mu : ℕ) (same : SameAround d U W n mu) where
   staples-same : (k : ℕ) → k ≤ 4 → staplesTo d U n mu k ≡ staplesTo d W n mu k

@@ -42,15 +42,17 @@ stapleCall p n mu l =
     let u = stapleOf (p .extents) (linkOf (p .extents) l) n mu in
     matrixAnswer (finally (firstRow (linkRows (p .extents) (p .coupling) (length l) n mu)) (badMatrix u, 10)) u
 
+abbrev pub averageRow : List ℕ → List Float → ℕ
+averageRow d l = finally (firstRow (fieldRows d (length l))) (badNumber (averageOf d (linkOf d l)), 10)
+
 abbrev pub AverageCall : List ℕ → List Float → Number → Type 0
-AverageCall d l r =
-    let x = averageOf d (linkOf d l) in
-    IsNumber (finally (firstRow (fieldRows d (length l))) (badNumber x, 10)) x r
+AverageCall d l r = IsNumber (averageRow d l) (averageOf d (linkOf d l)) r
+
+abbrev pub actionRow : List ℕ → Float → List Float → ℕ
+actionRow d c l = finally (firstRow (planRows d c (length l))) (badNumber (actionOf d (linkOf d l) c), 10)
 
 abbrev pub ActionCall : Plan → List Float → Number → Type 0
-ActionCall p l r =
-    let x = actionOf (p .extents) (linkOf (p .extents) l) (p .coupling) in
-    IsNumber (finally (firstRow (planRows (p .extents) (p .coupling) (length l))) (badNumber x, 10)) x r
+ActionCall p l r = IsNumber (actionRow (p .extents) (p .coupling) l) (actionOf (p .extents) (linkOf (p .extents) l) (p .coupling)) r
 
 unfoldable pub loopCall : List ℕ → List Float → LoopAnswer
 loopCall d l =

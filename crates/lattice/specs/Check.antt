@@ -11,7 +11,10 @@ use Rattle.gauge.specs.Field.{linkOf}
 use Rattle.gauge.specs.Sound.{unsoundLinks, Listed}
 use Rattle.lattice.specs.Rows.{checkRows}
 
+abbrev pub checkRow : List ℕ → List Float → List ℕ → ℕ
+checkRow d l found = firstRow (checkRows d (length l) (length found))
+
 pub record CheckCall (d : List ℕ) (l : List Float) (old : List ℕ) (r : Count) (new : List ℕ) : Type 0 where
-  pub answer : IsCount (firstRow (checkRows d (length l) (length old))) (length (unsoundLinks d (linkOf d l))) r
-  pub listed : firstRow (checkRows d (length l) (length old)) ≡ 0 → Listed (unsoundLinks d (linkOf d l)) old (length (unsoundLinks d (linkOf d l))) new
-  pub kept : (firstRow (checkRows d (length l) (length old)) ≡ 0 → ⊥) → new ≡ old
+  pub answer : IsCount (checkRow d l old) (length (unsoundLinks d (linkOf d l))) r
+  pub listed : checkRow d l old ≡ 0 → Listed (unsoundLinks d (linkOf d l)) old (length (unsoundLinks d (linkOf d l))) new
+  pub kept : (checkRow d l old ≡ 0 → ⊥) → new ≡ old

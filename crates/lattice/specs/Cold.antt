@@ -29,10 +29,13 @@ noPlan = record { extents = 0 ∷ 0 ∷ 0 ∷ 0 ∷ []; coupling = fzero; seed =
 unfoldable pub coldAnswer : ℕ → List ℕ → Float → ℕ → ColdAnswer
 coldAnswer row d c seed = record { refusal = row; plan = ifAccepted row (record { extents = d; coupling = c; seed = seed; pass = 0 }) noPlan }
 
+abbrev pub coldRow : List ℕ → Float → List Float → ℕ
+coldRow d c l = firstRow (planRows d c (length l))
+
 -- the answer, and the list afterwards
 pub record ColdCall (d : List ℕ) (c : Float) (seed : ℕ) (old : List Float) (r : ColdAnswer) (new : List Float) : Type 0 where
-  pub answer : r ≡ coldAnswer (firstRow (planRows d c (length old))) d c seed
-  pub links : new ≡ ifAccepted (firstRow (planRows d c (length old))) (coldLinks d) old
+  pub answer : r ≡ coldAnswer (coldRow d c old) d c seed
+  pub links : new ≡ ifAccepted (coldRow d c old) (coldLinks d) old
 
 -- every link of the list is the identity
 abbrev pub EveryLinkIsIdentity : Type 0

@@ -43,6 +43,10 @@ cmul a b = record {
 unfoldable pub cneg : C64 → C64
 cneg a = record { re = neg (a .re); im = neg (a .im) }
 
+-- a·b − c·d
+unfoldable pub minor : C64 → C64 → C64 → C64 → C64
+minor a b c d = csub (cmul a b) (cmul c d)
+
 -- neither part is an infinity or a NaN
 unfoldable pub finiteEntry : C64 → Bool
 finiteEntry a = finite (a .re) && finite (a .im)

@@ -8,7 +8,7 @@ use Rattle.loops.specs.Loops.{foldTo, allBelow}
 use Rattle.mat.specs.declared.C64.{C64}
 use Rattle.mat.specs.declared.Su3.{Su3}
 use Rattle.mat.specs.Rounded.{_⊞_, fzero}
-use Rattle.mat.specs.Complex.{czero, cone, cnan, conjOf, normSqr, cscale, cadd, csub, cmul, finiteEntry}
+use Rattle.mat.specs.Complex.{czero, cone, cnan, conjOf, normSqr, cscale, cadd, csub, cmul, finiteEntry, minor}
 
 -- ## Reading and making
 
@@ -65,10 +65,6 @@ reTr a = at a 0 0 .re ⊞ at a 1 1 .re ⊞ at a 2 2 .re
 -- Frobenius distance squared, summed row by row from +0
 unfoldable pub distSqr : Su3 → Su3 → Float
 distSqr a b = foldTo (λ s x. s ⊞ x) fzero (λ k. normSqr (csub (ent a k) (ent b k))) 9
-
--- a·b − c·d
-unfoldable pub minor : C64 → C64 → C64 → C64 → C64
-minor a b c d = csub (cmul a b) (cmul c d)
 
 -- the determinant, by minors of the first row
 unfoldable pub detOf : Su3 → C64

@@ -4,7 +4,7 @@ use Rattle.root.specs.Sqrt.{sqrtOf}
 use Rattle.mat.specs.declared.C64.{C64}
 use Rattle.mat.specs.declared.Row.{Row}
 use Rattle.mat.specs.Rounded.{_⊞_, fzero, inverse}
-use Rattle.mat.specs.Complex.{czero, conjOf, normSqr, cscale, cadd, csub, cmul}
+use Rattle.mat.specs.Complex.{czero, conjOf, normSqr, cscale, cadd, csub, cmul, minor}
 
 -- ⟨a, b⟩: the sum of conj a·b from +0
 unfoldable pub conjDot : Row → Row → C64
@@ -32,14 +32,10 @@ rowSubMul v d w = record {
 unfoldable pub unitRow : Row → Row
 unitRow v = rowScale v (inverse (sqrtOf (rowNormSqr v)))
 
--- the conjugate of a·b − c·d
-unfoldable pub minorConj : C64 → C64 → C64 → C64 → C64
-minorConj a b c d = conjOf (csub (cmul a b) (cmul c d))
-
 -- the conjugate of a × b
 unfoldable pub crossConj : Row → Row → Row
 crossConj a b = record {
-  c0 = minorConj (a .c1) (b .c2) (a .c2) (b .c1);
-  c1 = minorConj (a .c2) (b .c0) (a .c0) (b .c2);
-  c2 = minorConj (a .c0) (b .c1) (a .c1) (b .c0);
+  c0 = conjOf (minor (a .c1) (b .c2) (a .c2) (b .c1));
+  c1 = conjOf (minor (a .c2) (b .c0) (a .c0) (b .c2));
+  c2 = conjOf (minor (a .c0) (b .c1) (a .c1) (b .c0));
 }

@@ -1,5 +1,5 @@
 ghost use mathlib.Core.Path.{_≡_};
-ghost use Rattle.mat.specs.Complex.{complexOf, conjOf, normSqr, cscale, cadd, csub, cmul, cneg, finiteEntry};
+ghost use Rattle.mat.specs.Complex.{complexOf, conjOf, normSqr, cscale, cadd, csub, cmul, cneg, minor, finiteEntry};
 ghost use Rattle.mat.specs.Rounded.{fzero, fone};
 use crate::C64;
 
@@ -93,6 +93,13 @@ impl C64 {
             false
         }
     }
+}
+
+// a·b − c·d
+pub fn minor(a: C64, b: C64, c: C64, d: C64) -> C64
+    ensures { λ r. ⌜ r ≡ minor a b c d ⌝ }
+{
+    a.mul(b).sub(c.mul(d))
 }
 
 // Not called: it says of the constants what they are.

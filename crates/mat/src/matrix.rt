@@ -1,13 +1,8 @@
 ghost use mathlib.Core.Path.{_≡_};
-ghost use Rattle.mat.specs.Matrix.{daggerOf, traceOf, reTr, scaleOf, addOf, subOf, distSqr, minor, detOf, finiteMatrix};
+ghost use Rattle.mat.specs.Matrix.{daggerOf, traceOf, reTr, scaleOf, addOf, subOf, distSqr, detOf, finiteMatrix};
 use crate::C64;
 use crate::Su3;
-
-fn minor(a: C64, b: C64, c: C64, d: C64) -> C64
-    ensures { λ r. ⌜ r ≡ minor a b c d ⌝ }
-{
-    a.mul(b).sub(c.mul(d))
-}
+use crate::complex::minor;
 
 impl Su3 {
     pub const ZERO: Self = Self { m: [C64::ZERO; 9] };

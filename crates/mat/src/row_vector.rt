@@ -1,13 +1,8 @@
 ghost use mathlib.Core.Path.{_≡_};
-ghost use Rattle.mat.specs.Row.{conjDot, rowScale, rowNormSqr, rowSubMul, unitRow, minorConj, crossConj};
+ghost use Rattle.mat.specs.Row.{conjDot, rowScale, rowNormSqr, rowSubMul, unitRow, crossConj};
 use crate::C64;
 use crate::Row;
-
-fn minor_conj(a: C64, b: C64, c: C64, d: C64) -> C64
-    ensures { λ r. ⌜ r ≡ minorConj a b c d ⌝ }
-{
-    a.mul(b).sub(c.mul(d)).conj()
-}
+use crate::complex::minor;
 
 impl Row {
     pub fn conj_dot(self, o: Row) -> C64
@@ -55,9 +50,9 @@ impl Row {
         ensures { λ r. ⌜ r ≡ crossConj self o ⌝ }
     {
         Self {
-            c0: minor_conj(self.c1, o.c2, self.c2, o.c1),
-            c1: minor_conj(self.c2, o.c0, self.c0, o.c2),
-            c2: minor_conj(self.c0, o.c1, self.c1, o.c0),
+            c0: minor(self.c1, o.c2, self.c2, o.c1).conj(),
+            c1: minor(self.c2, o.c0, self.c0, o.c2).conj(),
+            c2: minor(self.c0, o.c1, self.c1, o.c0).conj(),
         }
     }
 }

@@ -1,7 +1,7 @@
-use Rattle.mat.specs.Matrix.{minor}
+use Rattle.mat.specs.Complex.{minor}
 use borrow.Author.Needs.{needs}
-use Rattle.mat.proofs.matrix.minor.Statement.{statement}
-use Rattle.mat.proofs.matrix.minor.Tie as tie
+use Rattle.mat.proofs.complex.minor.Statement.{statement}
+use Rattle.mat.proofs.complex.minor.Tie as tie
 
 returns : tie.Need-returns
 unfolding minor
