@@ -47,6 +47,10 @@ cneg a = record { re = neg (a .re); im = neg (a .im) }
 unfoldable pub minor : C64 → C64 → C64 → C64 → C64
 minor a b c d = csub (cmul a b) (cmul c d)
 
+-- x·a + y·b
+unfoldable pub combination : C64 → C64 → C64 → C64 → C64
+combination x a y b = cadd (cmul x a) (cmul y b)
+
 -- neither part is an infinity or a NaN
 unfoldable pub finiteEntry : C64 → Bool
 finiteEntry a = finite (a .re) && finite (a .im)

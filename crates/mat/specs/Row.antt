@@ -4,7 +4,7 @@ use Rattle.root.specs.Sqrt.{sqrtOf}
 use Rattle.mat.specs.declared.C64.{C64}
 use Rattle.mat.specs.declared.Row.{Row}
 use Rattle.mat.specs.Rounded.{_⊞_, fzero, inverse}
-use Rattle.mat.specs.Complex.{czero, conjOf, normSqr, cscale, cadd, csub, cmul, minor}
+use Rattle.mat.specs.Complex.{czero, conjOf, normSqr, cscale, cadd, csub, cmul, minor, combination}
 
 -- ⟨a, b⟩: the sum of conj a·b from +0
 unfoldable pub conjDot : Row → Row → C64
@@ -26,6 +26,14 @@ rowSubMul v d w = record {
   c0 = csub (v .c0) (cmul d (w .c0));
   c1 = csub (v .c1) (cmul d (w .c1));
   c2 = csub (v .c2) (cmul d (w .c2));
+}
+
+-- x·a + y·b
+unfoldable pub rowCombination : C64 → Row → C64 → Row → Row
+rowCombination x a y b = record {
+  c0 = combination x (a .c0) y (b .c0);
+  c1 = combination x (a .c1) y (b .c1);
+  c2 = combination x (a .c2) y (b .c2);
 }
 
 -- v times 1 / |v|

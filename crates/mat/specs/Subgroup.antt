@@ -4,12 +4,11 @@ use mathlib.Core.List.{[], _∷_}
 use lib.Dec.{ltb}
 use lib.ListN.{set}
 use Rattle.rows.specs.Rows.{firstRow}
-use Rattle.mat.specs.declared.C64.{C64}
 use Rattle.mat.specs.declared.Row.{Row}
 use Rattle.mat.specs.declared.Su3.{Su3}
 use Rattle.mat.specs.declared.Mat2.{Mat2}
 use Rattle.mat.specs.declared.Subgroup.{Subgroup}
-use Rattle.mat.specs.Complex.{cadd, cmul}
+use Rattle.mat.specs.Row.{rowCombination}
 use Rattle.mat.specs.Matrix.{at}
 use Rattle.mat.specs.Unitary.{rowOf}
 
@@ -29,14 +28,6 @@ blockOf u i j = record { m00 = at u i i; m01 = at u i j; m10 = at u j i; m11 = a
 
 unfoldable pub subBlock : Su3 → ℕ → Mat2
 subBlock u g = blockOf u (subgroupOf g .i) (subgroupOf g .j)
-
--- x·a + y·b
-unfoldable pub rowCombination : C64 → Row → C64 → Row → Row
-rowCombination x a y b = record {
-  c0 = cadd (cmul x (a .c0)) (cmul y (b .c0));
-  c1 = cadd (cmul x (a .c1)) (cmul y (b .c1));
-  c2 = cadd (cmul x (a .c2)) (cmul y (b .c2));
-}
 
 -- a with v as its row i
 unfoldable pub withRow : Su3 → ℕ → Row → Su3

@@ -24,9 +24,13 @@ ofRows u v w = record {
 unfoldable pub orthoRow : Row → Row → Row
 orthoRow u v = unitRow (rowSubMul v (conjDot u v) u)
 
--- the first row made a unit row, the second made a unit row orthogonal to it, the third the conjugate of their cross product
-unfoldable pub reunitarizeOf : Su3 → Su3
-reunitarizeOf a =
-    let u = unitRow (rowOf a 0) in
-    let v = orthoRow u (rowOf a 1) in
+-- the matrix of SU(3) that two rows give: the first made a unit row, the second made a unit row orthogonal to it, and the conjugate of their cross product
+unfoldable pub unitaryOf : Row → Row → Su3
+unitaryOf a b =
+    let u = unitRow a in
+    let v = orthoRow u b in
     ofRows u v (crossConj u v)
+
+-- by its first two rows: the third is not read
+unfoldable pub reunitarizeOf : Su3 → Su3
+reunitarizeOf a = unitaryOf (rowOf a 0) (rowOf a 1)

@@ -1,5 +1,5 @@
 ghost use mathlib.Core.Path.{_≡_};
-ghost use Rattle.mat.specs.Complex.{complexOf, conjOf, normSqr, cscale, cadd, csub, cmul, cneg, minor, finiteEntry};
+ghost use Rattle.mat.specs.Complex.{complexOf, conjOf, normSqr, cscale, cadd, csub, cmul, cneg, minor, combination, finiteEntry};
 ghost use Rattle.mat.specs.Rounded.{fzero, fone};
 use crate::C64;
 
@@ -81,6 +81,13 @@ impl C64 {
             re: -self.re,
             im: -self.im,
         }
+    }
+
+    // x·a + y·b
+    pub fn combine(x: C64, a: C64, y: C64, b: C64) -> Self
+        ensures { λ r. ⌜ r ≡ combination x a y b ⌝ }
+    {
+        x.mul(a).add(y.mul(b))
     }
 
     // Neither part is an infinity or a NaN.

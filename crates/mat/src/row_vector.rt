@@ -1,5 +1,5 @@
 ghost use mathlib.Core.Path.{_≡_};
-ghost use Rattle.mat.specs.Row.{conjDot, rowScale, rowNormSqr, rowSubMul, unitRow, crossConj};
+ghost use Rattle.mat.specs.Row.{conjDot, rowScale, rowNormSqr, rowSubMul, rowCombination, unitRow, crossConj};
 use crate::C64;
 use crate::Row;
 use crate::complex::minor;
@@ -37,6 +37,17 @@ impl Row {
             c0: self.c0.sub(d.mul(o.c0)),
             c1: self.c1.sub(d.mul(o.c1)),
             c2: self.c2.sub(d.mul(o.c2)),
+        }
+    }
+
+    // x·a + y·b
+    pub fn combine(x: C64, a: Row, y: C64, b: Row) -> Self
+        ensures { λ r. ⌜ r ≡ rowCombination x a y b ⌝ }
+    {
+        Self {
+            c0: C64::combine(x, a.c0, y, b.c0),
+            c1: C64::combine(x, a.c1, y, b.c1),
+            c2: C64::combine(x, a.c2, y, b.c2),
         }
     }
 

@@ -1,6 +1,6 @@
 ghost use mathlib.Core.Path.{_≡_};
 ghost use Prim.Native.Nat.{_<_};
-ghost use Rattle.mat.specs.Subgroup.{subgroupOf, withRow, rowCombination, blockOf, leftMulRows, subBlock, leftMulSub, subgroupRow};
+ghost use Rattle.mat.specs.Subgroup.{subgroupOf, withRow, blockOf, leftMulRows, subBlock, leftMulSub, subgroupRow};
 ghost use Rattle.mat.specs.Unitary.{rowOf};
 ghost use Rattle.mat.specs.Answers.{blockAnswer, matrixAnswer};
 use crate::BlockAnswer;
@@ -72,17 +72,6 @@ fn with_row(u: Su3, i: usize, v: Row) -> Su3
     Su3 { m }
 }
 
-// The row `x·a + y·b`.
-fn combine(x: C64, a: Row, y: C64, b: Row) -> Row
-    ensures { λ r. ⌜ r ≡ rowCombination x a y b ⌝ }
-{
-    Row {
-        c0: x.mul(a.c0).add(y.mul(b.c0)),
-        c1: x.mul(a.c1).add(y.mul(b.c1)),
-        c2: x.mul(a.c2).add(y.mul(b.c2)),
-    }
-}
-
 fn block(u: Su3, i: usize, j: usize) -> Mat2
     requires { ⌜ (i < 3) × (j < 3) ⌝ }
     ensures { λ r. ⌜ r ≡ blockOf u i j ⌝ }
@@ -101,8 +90,8 @@ fn left_mul_rows(u: Su3, i: usize, j: usize, x: Mat2) -> Su3
 {
     let a = row(u, i);
     let b = row(u, j);
-    let top = combine(x.m00, a, x.m01, b);
-    let bottom = combine(x.m10, a, x.m11, b);
+    let top = Row::combine(x.m00, a, x.m01, b);
+    let bottom = Row::combine(x.m10, a, x.m11, b);
     with_row(with_row(u, i, top), j, bottom)
 }
 

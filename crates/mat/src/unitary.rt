@@ -1,5 +1,5 @@
 ghost use mathlib.Core.Path.{_≡_};
-ghost use Rattle.mat.specs.Unitary.{rowsOf, ofRows, reunitarizeOf};
+ghost use Rattle.mat.specs.Unitary.{rowsOf, ofRows, unitaryOf, reunitarizeOf};
 use crate::Row;
 use crate::Rows;
 use crate::Su3;
@@ -41,16 +41,20 @@ impl Su3 {
         }
     }
 
-    // Project back onto SU(3): Gram-Schmidt the first two rows, then set the third to the conjugate
-    // cross product. The third row handed in is not read.
+    // Gram-Schmidt two rows, then set the third to the conjugate cross product.
+    pub fn unitary(a: Row, b: Row) -> Self
+        ensures { λ r. ⌜ r ≡ unitaryOf a b ⌝ }
+    {
+        let u = a.unit();
+        let v = b.sub_mul(u.conj_dot(b), u).unit();
+        Self::of_rows(u, v, u.cross_conj(v))
+    }
+
+    // Project back onto SU(3). The third row handed in is not read.
     pub fn reunitarize(self) -> Self
         ensures { λ r. ⌜ r ≡ reunitarizeOf self ⌝ }
     {
         let rows = self.rows();
-        let r0 = rows.r0.unit();
-        let dot = r0.conj_dot(rows.r1);
-        let r1 = rows.r1.sub_mul(dot, r0).unit();
-        let r2 = r0.cross_conj(r1);
-        Self::of_rows(r0, r1, r2)
+        Self::unitary(rows.r0, rows.r1)
     }
 }

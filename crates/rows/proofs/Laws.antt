@@ -24,6 +24,12 @@ pub row-passes : {holds : Bool} (row : ℕ) (rows : List (Bool × ℕ)) → hold
 unfolding firstRow
 row-passes row rows h = rw h
 
+-- where no row holds, the first does not
+pub row-passed : (holds : Bool) (r : ℕ) (rows : List (Bool × ℕ)) → firstRow ((holds, suc r) ∷ rows) ≡ 0 → (holds ≡ false) × (firstRow rows ≡ 0)
+unfolding firstRow
+row-passed true r rows h = absurd (omega arith)
+row-passed false r rows h = (refl, h)
+
 pub finally-refused : (r : ℕ) (last : Bool × ℕ) → (r ≡ 0 → ⊥) → finally r last ≡ r
 unfolding finally ifAccepted
 finally-refused zero last ne = absurd (ne refl)
