@@ -54,11 +54,11 @@ module _ (d : List ℕ) (shape : Shape d) (n mu : ℕ) (axis : mu < 4) where
 
 pub near-up : (d : List ℕ) (n mu : ℕ) → mu < 4 → getD (nearOf d n .up) mu 0 ≡ fwdOf d n mu
 unfolding nearOf
-near-up d n mu h = listed-at (fwdOf d n) 4 mu h
+near-up d n mu h = listed-at (fwdOf d n) 0 4 mu h
 
 pub near-down : (d : List ℕ) (n mu : ℕ) → mu < 4 → getD (nearOf d n .down) mu 0 ≡ bwdOf d n mu
 unfolding nearOf
-near-down d n mu h = listed-at (bwdOf d n) 4 mu h
+near-down d n mu h = listed-at (bwdOf d n) 0 4 mu h
 
 -- ## corners
 

@@ -119,7 +119,7 @@ module _ (d : List ℕ) (shape : Shape d) (p : ℕ) (two : p < 2) where
   count-sites = rw sites-are (length-listed (nthOf d p) (halfOf d))
 
   pub site-at : (k : ℕ) → k < halfOf d → getD (sitesOf d p) k 0 ≡ nthOf d p k
-  site-at k h = rw sites-are (listed-at (nthOf d p) (halfOf d) k h)
+  site-at k h = rw sites-are (listed-at (nthOf d p) 0 (halfOf d) k h)
 
   pub first-sites : (s : ℕ) → s ≤ halfOf d → take s (sitesOf d p) ≡ map (nthOf d p) (range s)
   first-sites s h = rw sites-are (take-listed (nthOf d p) (halfOf d) s h)

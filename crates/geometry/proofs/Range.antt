@@ -9,7 +9,7 @@ use lib.ListN.{length, getD, take, length-append, List·getD-append}
 use lib.Seq.{getD-at, take-append-le, take-all}
 use Rattle.geometry.specs.Range.{range}
 
-module _ (f : ℕ → ℕ) where
+module _ {A : Type 0} (f : ℕ → A) where
   pub listed-next : (k : ℕ) → map f (range (suc k)) ≡ map f (range k) ++ (f k ∷ [])
   unfolding range
   listed-next k = map-append f (range k) (k ∷ [])
@@ -19,13 +19,13 @@ module _ (f : ℕ → ℕ) where
   length-listed zero = refl
   length-listed (suc k) = rw (listed-next k, length-append, length-listed k) (add-one k)
 
-  pub listed-at : (k j : ℕ) → j < k → getD (map f (range k)) j 0 ≡ f j
-  listed-at zero j h = absurd (omega arith)
-  listed-at (suc k) j h = rw (listed-next k) (go (listed-at k j) (decLt j k))
+  pub listed-at : (z : A) (k j : ℕ) → j < k → getD (map f (range k)) j z ≡ f j
+  listed-at z zero j h = absurd (omega arith)
+  listed-at z (suc k) j h = rw (listed-next k) (go (listed-at z k j) (decLt j k))
     where
-      go : (j < k → getD (map f (range k)) j 0 ≡ f j) → Dec (j < k) → getD (map f (range k) ++ (f k ∷ [])) j 0 ≡ f j
-      go ih (yes g) = List·getD-append (map f (range k)) (f k ∷ []) 0 j (rw (length-listed k) g) ∙ ih g
-      go ih (no g) = let e : j ≡ k = omega arith in rw e (getD-at (map f (range k)) (f k) [] 0 k (length-listed k))
+      go : (j < k → getD (map f (range k)) j z ≡ f j) → Dec (j < k) → getD (map f (range k) ++ (f k ∷ [])) j z ≡ f j
+      go ih (yes g) = List·getD-append (map f (range k)) (f k ∷ []) z j (rw (length-listed k) g) ∙ ih g
+      go ih (no g) = let e : j ≡ k = omega arith in rw e (getD-at (map f (range k)) (f k) [] z k (length-listed k))
 
   pub take-listed : (k j : ℕ) → j ≤ k → take j (map f (range k)) ≡ map f (range j)
   take-listed zero j h = let e : j ≡ 0 = omega arith in rw e (unfold range in refl)

@@ -164,7 +164,7 @@ corner d n mu k nu j below axis other ne =
 
 pub stride-of : (d : List ℕ) (mu : ℕ) → mu < 5 → getD (stridesOf d) mu 0 ≡ strideOf d mu
 unfolding stridesOf
-stride-of d mu h = listed-at (strideOf d) 5 mu h
+stride-of d mu h = listed-at (strideOf d) 0 5 mu h
 
 -- as the code multiplies
 pub strides-are : (d : List ℕ) → length d ≡ 4

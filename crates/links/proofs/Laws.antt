@@ -98,14 +98,18 @@ entry-at l p (suc (suc (suc (suc (suc (suc (suc (suc (suc k))))))))) h = absurd 
 mk : List C64 → Su3
 mk m = record { m = m }
 
--- two matrices with the same entries are one
-same-entries : (l : List Float) (p : ℕ) (m : List C64) → length m ≡ 9 → ((k : ℕ) → k < 9 → cellAt l (p + 2 * k) ≡ getD m k cnan) → matrixAt l p ≡ mk m
+-- a matrix is known by its entries
+pub matrix-is : (l : List Float) (p : ℕ) (u : Su3) → length (u .m) ≡ 9 → ((k : ℕ) → k < 9 → cellAt l (p + 2 * k) ≡ ent u k) → matrixAt l p ≡ u
 unfolding matrixAt mk
-same-entries l p m h e = ap mk (ext-getD cnan _ m (sym h) (λ k g. sym (entry-at l p k g) ∙ e k g))
+matrix-is l p u h e = ap mk (ext-getD cnan _ (u .m) (sym h) (λ k g. sym (entry-at l p k g) ∙ e k g))
 
 pub matrix-same : (l : List Float) (p : ℕ) (u : Su3) → p + 18 ≤ length l → length (u .m) ≡ 9 → matrixAt (withMatrix l p u) p ≡ u
-unfolding withMatrix mk
-matrix-same l p u h w = same-entries (putCells l p u 9) p (u .m) w (λ k g. cells-same l p u 9 k g h)
+unfolding withMatrix
+matrix-same l p u h w = matrix-is (putCells l p u 9) p u w (λ k g. cells-same l p u 9 k g h)
+
+pub matrix-nine : (l : List Float) (p : ℕ) → length (matrixAt l p .m) ≡ 9
+unfolding matrixAt
+matrix-nine l p = refl
 
 -- ## One link of many
 
@@ -113,9 +117,9 @@ pub link-same : (l : List Float) (k : ℕ) (u : Su3) → 18 * k + 18 ≤ length 
 link-same l k u h w = matrix-same l (18 * k) u h w
 
 pub link-other : (l : List Float) (k : ℕ) (u : Su3) (j : ℕ) → (j ≡ k → ⊥) → matrixAt (withMatrix l (18 * k) u) (18 * j) ≡ matrixAt l (18 * j)
-unfolding withMatrix mk
+unfolding withMatrix
 link-other l k u j n =
-    same-entries (putCells l (18 * k) u 9) (18 * j) (matrixAt l (18 * j) .m) (unfold matrixAt in refl)
+    matrix-is (putCells l (18 * k) u 9) (18 * j) (matrixAt l (18 * j)) (matrix-nine l (18 * j))
     (λ i g. cells-other l (18 * k) u 9 (18 * j + 2 * i) (λ i' g'. apart i g i' g' (decLt j k)) ∙ entry-at l (18 * j) i g)
   where
     apart : (i : ℕ) → i < 9 → (i' : ℕ) → i' < 9 → Dec (j < k) → Apart (18 * j + 2 * i) (18 * k + 2 * i')
