@@ -1,9 +1,14 @@
 -- The field that a list holds, by its extents.
-use Prim.Native.Nat.{ℕ, _*_, _<_}
-use mathlib.Core.List.{List}
+use Prim.Native.Nat.{ℕ, _*_, _/_, _%_, _<_}
+use mathlib.Core.Bool.{cond}
+use mathlib.Core.List.{List, map}
 use mathlib.Core.Path.{_≡_}
+use lib.Dec.{eqb}
 use lib.Ieee.{Float}
 use lib.ListN.{length}
+use Rattle.mat.specs.declared.Su3.{Su3}
+use Rattle.mat.specs.Matrix.{ent}
+use Rattle.geometry.specs.Range.{range}
 use Rattle.geometry.specs.Radix.{volume}
 use Rattle.geometry.specs.Shape.{Shape}
 use Rattle.links.specs.Field.{Field, fieldOf}
@@ -11,6 +16,14 @@ use Rattle.links.specs.Field.{Field, fieldOf}
 -- U_μ(n)
 abbrev pub linkOf : List ℕ → List Float → Field
 linkOf d l = fieldOf (volume d) l
+
+-- the i-th of a matrix's eighteen numbers
+unfoldable pub partOf : Su3 → ℕ → Float
+partOf u i = cond (eqb (i % 2) 0) (ent u (i / 2) .re) (ent u (i / 2) .im)
+
+-- the list that holds U: eighteen numbers for each link, by direction, then site
+unfoldable pub listOf : List ℕ → Field → List Float
+listOf d U = map (λ k. partOf (U (k / 18 / volume d) (k / 18 % volume d)) (k % 18)) (range (72 * volume d))
 
 -- a list that holds a field of these extents
 pub record Holds (d : List ℕ) (l : List Float) : Type 0 where
