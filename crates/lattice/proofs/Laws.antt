@@ -63,7 +63,7 @@ good-direction h = rw (le-ltb _ _ h)
 
 -- ## what a passed test says
 
-or-false : (a b : Bool) → a || b ≡ false → (a ≡ false) × (b ≡ false)
+pub or-false : (a b : Bool) → a || b ≡ false → (a ≡ false) × (b ≡ false)
 or-false false b h = (refl, h)
 or-false true b h = (h, absurd (true≢false h))
 

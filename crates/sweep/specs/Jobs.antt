@@ -1,0 +1,126 @@
+-- The calls: a single update, opening a half-sweep, a frame of it, and whether it is finished. Each has its rows, and its answer.
+use Prim.Native.Nat.{ℕ, _+_, _-_, _^_, _<_, _≤_}
+use mathlib.Core.Bool.{Bool, false, _||_}
+use mathlib.Core.List.{List, [], _∷_}
+use mathlib.Core.Path.{_≡_}
+use lib.Dec.{eqb, ltb}
+use lib.Ieee.{Float}
+use lib.ListN.{length, take, drop}
+use Rattle.rows.specs.Rows.{firstRow, ifAccepted, finally}
+use Rattle.mat.specs.declared.Su3.{Su3}
+use Rattle.mat.specs.declared.MatrixAnswer.{MatrixAnswer}
+use Rattle.mat.specs.Answers.{matrixAnswer}
+use Rattle.geometry.specs.Order.{sitesOf, halfOf}
+use Rattle.gauge.specs.Field.{linkOf, listOf}
+use Rattle.gauge.specs.Update.{isStuck, updateLinkOf, updateOf}
+use Rattle.lattice.specs.declared.Plan.{Plan}
+use Rattle.lattice.specs.Situations.{badExtents, badCoupling, badLinks, badDirection}
+use Rattle.lattice.specs.Rows.{Rows, linkRows}
+use Rattle.sweep.specs.declared.Job.{Job}
+use Rattle.sweep.specs.declared.Opened.{Opened}
+use Rattle.sweep.specs.declared.Framed.{Framed}
+use Rattle.sweep.specs.declared.FinishedAnswer.{FinishedAnswer}
+use Rattle.sweep.specs.Visits.{overrelaxedField, stuckLinks}
+
+-- ## The single update: a stuck link is row 9, tried last
+
+unfoldable pub updateLinkCall : Su3 → Su3 → MatrixAnswer
+updateLinkCall u a =
+    let r = updateLinkOf u a in
+    matrixAnswer (firstRow ((isStuck (r .stuck), 9) ∷ [])) (r .link)
+
+unfoldable pub overrelaxLinkCall : Plan → ℕ → ℕ → List Float → MatrixAnswer
+overrelaxLinkCall q n mu l =
+    let r = updateOf (q .extents) (linkOf (q .extents) l) n mu in
+    matrixAnswer (finally (firstRow (linkRows (q .extents) (q .coupling) (length l) n mu)) (isStuck (r .stuck), 9)) (r .link)
+
+-- ## Rows 6, 7 and 8
+
+-- 6: a parity above 1
+unfoldable pub badParity : ℕ → Bool
+badParity p = ltb 1 p
+
+-- 7: opening with the last pass
+unfoldable pub badPass : ℕ → Bool
+badPass k = eqb k (2 ^ 64 - 1)
+
+-- 8: a job with visited above half the sites, stuck above visited, or direction or parity out of range
+unfoldable pub badJob : Job → Bool
+badJob j = ltb (halfOf (j .extents)) (j .visited) || ltb (j .visited) (j .stuck) || ltb 3 (j .direction) || ltb 1 (j .parity)
+
+-- and what holds of a job that passes
+pub record InRange (j : Job) : Type 0 where
+  pub visited : j .visited ≤ halfOf (j .extents)
+  pub stuck : j .stuck ≤ j .visited
+  pub axis : j .direction < 4
+  pub parity : j .parity < 2
+
+abbrev pub openRows : Plan → ℕ → ℕ → Rows
+openRows q mu p = (badExtents (q .extents), 1) ∷ (badCoupling (q .coupling), 2) ∷ (badDirection mu, 5) ∷ (badParity p, 6) ∷ (badPass (q .pass), 7) ∷ []
+
+abbrev pub frameRows : Job → ℕ → Rows
+frameRows j long = (badExtents (j .extents), 1) ∷ (badLinks (j .extents) long, 3) ∷ (badJob j, 8) ∷ []
+
+abbrev pub finishedRows : Job → Rows
+finishedRows j = (badExtents (j .extents), 1) ∷ (badJob j, 8) ∷ []
+
+-- ## Opening
+
+abbrev pub newJob : Plan → ℕ → ℕ → Job
+newJob q mu p = record { extents = q .extents; direction = mu; parity = p; visited = 0; stuck = 0; pass = q .pass }
+
+abbrev pub noJob : Job
+noJob = record { extents = 0 ∷ 0 ∷ 0 ∷ 0 ∷ []; direction = 0; parity = 0; visited = 0; stuck = 0; pass = 0 }
+
+-- a plan some passes on
+abbrev pub passedPlan : Plan → ℕ → Plan
+passedPlan q k = record { extents = q .extents; coupling = q .coupling; seed = q .seed; pass = q .pass + k }
+
+abbrev pub openRow : Plan → ℕ → ℕ → ℕ
+openRow q mu p = firstRow (openRows q mu p)
+
+unfoldable pub openCall : Plan → ℕ → ℕ → Opened
+openCall q mu p = record {
+  refusal = openRow q mu p;
+  job = ifAccepted (openRow q mu p) (newJob q mu p) noJob;
+  plan = ifAccepted (openRow q mu p) (passedPlan q 1) q;
+}
+
+-- ## Frames
+
+-- the sites that a frame visits: so many more of the job's parity, or all that are left
+unfoldable pub frameSites : Job → ℕ → List ℕ
+frameSites j size = take size (drop (j .visited) (sitesOf (j .extents) (j .parity)))
+
+abbrev pub framedJob : Job → ℕ → List Float → Job
+framedJob j size l = record {
+  extents = j .extents;
+  direction = j .direction;
+  parity = j .parity;
+  visited = j .visited + length (frameSites j size);
+  stuck = j .stuck + stuckLinks (j .extents) (j .direction) (linkOf (j .extents) l) (frameSites j size);
+  pass = j .pass;
+}
+
+abbrev pub frameRow : Job → List Float → ℕ
+frameRow j l = firstRow (frameRows j (length l))
+
+unfoldable pub frameAnswer : Job → ℕ → List Float → Framed
+frameAnswer j size l = record { refusal = frameRow j l; job = ifAccepted (frameRow j l) (framedJob j size l) j }
+
+-- the list that was lent, afterwards
+unfoldable pub frameLinks : Job → ℕ → List Float → List Float
+frameLinks j size l =
+    ifAccepted (frameRow j l) (listOf (j .extents) (overrelaxedField (j .extents) (j .direction) (linkOf (j .extents) l) (frameSites j size))) l
+
+pub record FrameCall (j : Job) (size : ℕ) (old : List Float) (r : Framed) (new : List Float) : Type 0 where
+  pub answer : r ≡ frameAnswer j size old
+  pub links : new ≡ frameLinks j size old
+
+-- ## Finished: visited is half the sites
+
+abbrev pub finishedAnswer : ℕ → Bool → FinishedAnswer
+finishedAnswer row b = record { refusal = row; finished = ifAccepted row b false }
+
+unfoldable pub finishedCall : Job → FinishedAnswer
+finishedCall j = finishedAnswer (firstRow (finishedRows j)) (eqb (j .visited) (halfOf (j .extents)))

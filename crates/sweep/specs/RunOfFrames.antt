@@ -1,0 +1,112 @@
+-- Demand 3: a half-sweep in frames, as one claim about the whole list of its frame calls.
+use Prim.Native.Nat.{ℕ, _+_, _*_, _<_, min}
+use mathlib.Core.List.{List, [], _∷_, List·Mem}
+use mathlib.Core.Path.{_≡_}
+use lib.Dec.{eqb}
+use lib.Ieee.{Float}
+use lib.ListN.{length, take}
+use Rattle.rows.specs.Rows.{ifAccepted}
+use Rattle.geometry.specs.Radix.{volume}
+use Rattle.geometry.specs.Order.{sitesOf, halfOf}
+use Rattle.gauge.specs.Field.{linkOf}
+use Rattle.gauge.specs.Update.{updateOf}
+use Rattle.lattice.specs.declared.Plan.{Plan}
+use Rattle.sweep.specs.declared.Job.{Job}
+use Rattle.sweep.specs.declared.Framed.{Framed}
+use Rattle.sweep.specs.Visits.{visitedLink, stuckLinks}
+use Rattle.sweep.specs.Jobs.{openCall, frameAnswer, frameLinks, finishedCall}
+
+-- ## A run
+
+-- a frame call: its size, and whether it is lent the field's links or another list
+pub data Frame : Type 0 where
+  lent : ℕ → Frame
+  other : ℕ → List Float → Frame
+
+-- what stands between two calls: the job that the last one handed back, and the links as they are
+pub record Between : Type 0 where
+  pub job : Job
+  pub links : List Float
+
+-- a half-sweep just opened
+abbrev pub opened : Plan → ℕ → ℕ → List Float → Between
+opened q mu p l = record { job = openCall q mu p .job; links = l }
+
+abbrev pub sizeOf : Frame → ℕ
+sizeOf (lent size) = size
+sizeOf (other size l) = size
+
+abbrev pub answerOf : Between → Frame → Framed
+answerOf b (lent size) = frameAnswer (b .job) size (b .links)
+answerOf b (other size l) = frameAnswer (b .job) size l
+
+-- after a call; a list that is not the field's leaves the links alone
+abbrev pub next : Between → Frame → Between
+next b (lent size) = record { job = answerOf b (lent size) .job; links = frameLinks (b .job) size (b .links) }
+next b (other size l) = record { job = answerOf b (other size l) .job; links = b .links }
+
+unfoldable pub run : Between → List Frame → Between
+run b [] = b
+run b (f ∷ fs) = run (next b f) fs
+
+-- the sum of the accepted frames, told by their answers
+unfoldable pub acceptedSum : Between → List Frame → ℕ
+acceptedSum b [] = 0
+acceptedSum b (f ∷ fs) = ifAccepted (answerOf b f .refusal) (sizeOf f) 0 + acceptedSum (next b f) fs
+
+-- every list that is not the field's has another length than it
+unfoldable pub OthersMisfit : ℕ → List Frame → Type 0
+OthersMisfit long [] = Unit {0}
+OthersMisfit long (lent size ∷ fs) = OthersMisfit long fs
+OthersMisfit long (other size l ∷ fs) = (length l ≡ long → ⊥) × OthersMisfit long fs
+
+-- ## What holds after it
+
+-- each call's answer: on the field's links accepted; on another list refused by row 3, with the job and that list as they were
+unfoldable pub Answered : Between → List Frame → Type 0
+Answered b [] = Unit {0}
+Answered b (lent size ∷ fs) = (answerOf b (lent size) .refusal ≡ 0) × Answered (next b (lent size)) fs
+Answered b (other size l ∷ fs) =
+    (answerOf b (other size l) .refusal ≡ 3) × (answerOf b (other size l) .job ≡ b .job) × (frameLinks (b .job) size l ≡ l)
+    × Answered (next b (other size l)) fs
+
+-- the first s sites of a parity in ascending order
+abbrev pub firstSites : List ℕ → ℕ → ℕ → List ℕ
+firstSites d p s = take s (sitesOf d p)
+
+-- s sites of the half-sweep that the plan opened in direction μ and parity p on the links l have been visited
+pub record Swept (q : Plan) (mu p : ℕ) (l : List Float) (s : ℕ) (b : Between) : Type 0 where
+  pub count : length (firstSites (q .extents) p s) ≡ s
+  -- the link of each in direction μ is what the one-link update gives from the field at opening, or as it was if it is stuck there
+  pub updated : (n : ℕ) → List·Mem n (firstSites (q .extents) p s)
+      → linkOf (q .extents) (b .links) mu n ≡ visitedLink (updateOf (q .extents) (linkOf (q .extents) l) n mu) (linkOf (q .extents) l mu n)
+  -- all other links keep their bits
+  pub kept : (nu n : ℕ) → nu < 4 → n < volume (q .extents) → (nu ≡ mu → List·Mem n (firstSites (q .extents) p s) → ⊥)
+      → linkOf (q .extents) (b .links) nu n ≡ linkOf (q .extents) l nu n
+  pub long : length (b .links) ≡ length l
+  pub visited : b .job .visited ≡ s
+  -- the number of visited links stuck in the field at opening
+  pub stuck : b .job .stuck ≡ stuckLinks (q .extents) mu (linkOf (q .extents) l) (firstSites (q .extents) p s)
+  pub extents : b .job .extents ≡ q .extents
+  pub direction : b .job .direction ≡ mu
+  pub parity : b .job .parity ≡ p
+  pub pass : b .job .pass ≡ q .pass
+  -- finished exactly when s is half the sites
+  pub finished : finishedCall (b .job) ≡ record { refusal = 0; finished = eqb s (halfOf (q .extents)) }
+
+-- ## The claim
+
+-- an accepted opening and a list that fits the plan's extents, whatever its contents; that there are four extents a plan's type says
+pub record Opening (q : Plan) (mu p : ℕ) (l : List Float) : Type 0 where
+  pub four : length (q .extents) ≡ 4
+  pub accepted : openCall q mu p .refusal ≡ 0
+  pub fits : length l ≡ 72 * volume (q .extents)
+
+-- s is the smaller of the accepted frames' sum and half the sites
+abbrev pub Demand3 : Type 0
+Demand3 =
+    (q : Plan) (mu p : ℕ) (l : List Float) (frames : List Frame)
+    → Opening q mu p l
+    → OthersMisfit (72 * volume (q .extents)) frames
+    → Swept q mu p l (min (acceptedSum (opened q mu p l) frames) (halfOf (q .extents))) (run (opened q mu p l) frames)
+    × Answered (opened q mu p l) frames
