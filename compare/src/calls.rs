@@ -1,5 +1,9 @@
-//! The calls of the lattice, on both sides: what the library answers, and what the document and the
-//! reference say.
+//! The calls of the lattice and of the sweep, on both sides: what the library answers, and what the
+//! document and the reference say.
+
+mod sweep;
+
+pub use sweep::{FINISHED, FRAME_OVERRELAX, OPEN_OVERRELAX, OVERRELAX_LINK};
 
 use crate::face;
 use crate::flat;
@@ -20,6 +24,8 @@ pub struct Call {
     pub rattle: fn(&Arguments) -> Words,
     /// Where no row holds on the arguments.
     rust: fn(&Arguments, &Su3Lattice) -> Words,
+    /// What it is handed and hands back after its other numbers: refused, as it was.
+    keeps: Option<fn(&Arguments) -> Words>,
     /// What it then does to the lists.
     pub writes: Option<fn(&Arguments, &Su3Lattice, &mut Lists)>,
 }
@@ -30,6 +36,7 @@ pub const N_SITES: Call = Call {
     width: 1,
     rattle: |a| counted(face::n_sites(&a.ext)),
     rust: |_, lattice| counted((0, [lattice.n_sites()])),
+    keeps: None,
     writes: None,
 };
 
@@ -39,6 +46,7 @@ pub const COORDS: Call = Call {
     width: 4,
     rattle: |a| counted(face::coords(&a.ext, a.site)),
     rust: |a, lattice| counted((0, lattice.coords(a.site))),
+    keeps: None,
     writes: None,
 };
 
@@ -48,6 +56,7 @@ pub const INDEX: Call = Call {
     width: 1,
     rattle: |a| counted(face::index(&a.ext, &a.at)),
     rust: |a, lattice| counted((0, [lattice.index(a.at)])),
+    keeps: None,
     writes: None,
 };
 
@@ -60,6 +69,7 @@ pub const PARITY: Call = Call {
         let odd = lattice.sites_of(1).binary_search(&a.site).is_ok();
         counted((0, [usize::from(odd)]))
     },
+    keeps: None,
     writes: None,
 };
 
@@ -69,6 +79,7 @@ pub const FWD: Call = Call {
     width: 1,
     rattle: |a| counted(face::fwd(&a.ext, a.site, a.mu)),
     rust: |a, lattice| counted((0, [lattice.fwd(a.site, a.mu)])),
+    keeps: None,
     writes: None,
 };
 
@@ -78,6 +89,7 @@ pub const BWD: Call = Call {
     width: 1,
     rattle: |a| counted(face::bwd(&a.ext, a.site, a.mu)),
     rust: |a, lattice| counted((0, [lattice.bwd(a.site, a.mu)])),
+    keeps: None,
     writes: None,
 };
 
@@ -87,6 +99,7 @@ pub const COLD: Call = Call {
     width: 0,
     rattle: |a| answer(face::cold(&a.ext, a.coupling, a.seed, a.links), []),
     rust: |_, _| answer(0, []),
+    keeps: None,
     writes: Some(|a, _, lists| {
         let cold = flat::links(&Su3Lattice::cold(a.ext, a.coupling, a.seed));
         lists.links[..cold.len()].copy_from_slice(&cold);
@@ -99,6 +112,7 @@ pub const PLAQUETTE: Call = Call {
     width: 18,
     rattle: |a| numbers(face::plaquette(&a.ext, a.site, [a.mu, a.nu], a.links)),
     rust: |a, lattice| judged(&flat::numbers(&lattice.plaquette(a.site, a.mu, a.nu))),
+    keeps: None,
     writes: None,
 };
 
@@ -108,6 +122,7 @@ pub const STAPLE: Call = Call {
     width: 18,
     rattle: |a| numbers(face::staple(&a.ext, a.coupling, a.site, a.mu, a.links)),
     rust: |a, lattice| judged(&flat::numbers(&lattice.staple(a.site, a.mu))),
+    keeps: None,
     writes: None,
 };
 
@@ -121,6 +136,7 @@ pub const AVERAGE_PLAQUETTE: Call = Call {
     width: 1,
     rattle: |a| numbers(face::average_plaquette(&a.ext, a.links)),
     rust: |_, lattice| judged(&[lattice.average_plaquette()]),
+    keeps: None,
     writes: None,
 };
 
@@ -130,6 +146,7 @@ pub const ACTION: Call = Call {
     width: 1,
     rattle: |a| numbers(face::action(&a.ext, a.coupling, a.links)),
     rust: |_, lattice| judged(&[lattice.action()]),
+    keeps: None,
     writes: None,
 };
 
@@ -142,6 +159,7 @@ pub const POLYAKOV_LOOP: Call = Call {
         let mean = lattice.polyakov_loop();
         judged(&[mean.re, mean.im])
     },
+    keeps: None,
     writes: None,
 };
 
@@ -156,13 +174,14 @@ pub const LINK_CHECK: Call = Call {
         answer(refusal, [count.into()])
     },
     rust: |_, lattice| answer(0, [unsound(lattice).len() as u64]),
+    keeps: None,
     writes: Some(|_, lattice, lists| {
         let unsound = unsound(lattice);
         lists.found[..unsound.len()].copy_from_slice(&unsound);
     }),
 };
 
-pub const CALLS: [Call; 13] = [
+pub const CALLS: [Call; 17] = [
     N_SITES,
     COORDS,
     INDEX,
@@ -176,6 +195,10 @@ pub const CALLS: [Call; 13] = [
     ACTION,
     POLYAKOV_LOOP,
     LINK_CHECK,
+    OVERRELAX_LINK,
+    OPEN_OVERRELAX,
+    FRAME_OVERRELAX,
+    FINISHED,
 ];
 
 impl Call {
@@ -186,8 +209,14 @@ impl Call {
                 lattice.beta = a.coupling;
                 (self.rust)(a, lattice)
             }
-            row => refused(row, self.width),
+            row => self.refused(row, a),
         }
+    }
+
+    /// What it answers where this row refuses it.
+    pub fn refused(&self, row: u32, a: &Arguments) -> Words {
+        let kept = self.keeps.map_or(vec![], |keeps| keeps(a));
+        [refused(row, self.width), kept].concat()
     }
 }
 

@@ -9,9 +9,11 @@
 
 mod lattice;
 mod mat;
+mod sweep;
 
 pub use lattice::*;
 pub use mat::*;
+pub use sweep::*;
 
 /// The four words of a generator.
 pub type State = [u64; 4];

@@ -45,7 +45,7 @@ const fn fixed(name: &'static str, link: fn(&mut Rng, Place) -> Mat) -> Kind {
     }
 }
 
-pub static KINDS: [Kind; 25] = [
+pub static KINDS: [Kind; 27] = [
     fixed("cold", |_, _| flat::numbers(&Su3::IDENTITY)),
     kind("raw", 0, |rng, _| raw(rng)),
     kind("group", 0, |rng, _| flat::numbers(&group(rng))),
@@ -92,6 +92,9 @@ pub static KINDS: [Kind; 25] = [
     }),
     fixed("zeros", |_, _| [0.0; 18]),
     fixed("nan", |_, _| [f64::NAN; 18]),
+    // The norms of an update are near its bound: the first, the second, the third or none is short.
+    kind("brink of stuck", 0, |rng, _| scaled(rng, 7.5e-4)),
+    kind("at the bound", 4, at_bound),
 ];
 
 /// The first seven: those of the sample.
@@ -244,6 +247,22 @@ fn one_unsound(_: &mut Rng, place: Place) -> Mat {
     let draw = Rng::stream(place.seed, 4, 0, 0).next_u64();
     if place.number == draw as usize % place.links {
         link[(draw >> 48) as usize % 18] = outside[(draw >> 40) as usize % 6];
+    }
+    link
+}
+
+/// Cold, but of direction 0 one link in eight, whose first, second or third norm in an update is within
+/// a few steps of 1e-12 where the links around it are cold: their staple is six times the identity.
+fn at_bound(rng: &mut Rng, place: Place) -> Mat {
+    let mut link = flat::numbers(&Su3::IDENTITY);
+    let draw = rng.next_u64();
+    if 4 * place.number < place.links && draw >> 61 == 0 {
+        let sixth = f64::from_bits((1e-12f64 / 6.0).to_bits() - 4 + draw % 9);
+        match draw / 9 % 3 {
+            0 => link = link.map(|x| x * sixth),
+            1 => (link[5], link[16]) = (2.0 * sixth, -1.0),
+            _ => (link[0], link[11], link[16]) = (3.0, 2.0 * sixth, -1.0),
+        }
     }
     link
 }

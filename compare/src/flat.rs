@@ -1,8 +1,9 @@
-//! The header's flat numbers and the reference's types, each from the other.
+//! The header's flat numbers and the reference's types, each from the other. The reference is the one
+//! beside this module: the times have both a second time.
 
+use super::reference::su3::lattice::Su3Lattice;
+use super::reference::su3::mat::{C64, Su3};
 use crate::face::{Block, Four, Mat};
-use crate::reference::su3::lattice::Su3Lattice;
-use crate::reference::su3::mat::{C64, Su3};
 
 pub fn matrix(numbers: &Mat) -> Su3 {
     let complex = |k: usize| C64::new(numbers[2 * k], numbers[2 * k + 1]);

@@ -1,11 +1,11 @@
-//! What a call of the lattice is tried on, and the check of its whole answer: the refusal number,
+//! What a call of the lattice or of the sweep is tried on, and the check of its whole answer: the refusal number,
 //! the other numbers, and every number of the lists afterwards.
 
 use crate::calls::Call;
 use crate::face::Four;
 use crate::flat;
 use crate::reference::su3::lattice::Su3Lattice;
-use crate::rows::Arguments;
+use crate::rows::{Arguments, Job};
 use crate::tally::{Tally, Words};
 use std::cell::Cell;
 
@@ -60,6 +60,10 @@ impl Lent {
             at: [0; 4],
             mu: 0,
             nu: 1,
+            parity: 0,
+            pass: 0,
+            job: Job::default(),
+            size: 1,
             found: &self.found[..room],
         }
     }
@@ -118,16 +122,25 @@ impl Ground {
         }
     }
 
-    /// In the order in which they are named here, the coordinates after the site.
-    fn inputs(&self, a: &Arguments) -> [u64; 17] {
-        let [kind, seed] = self.label;
-        let ([t, x, y, z], [ct, cx, cy, cz]) = (a.ext.map(word), a.at.map(word));
+    /// In the order in which they are named here, the coordinates after the site, a whole job before
+    /// the frame's size.
+    fn inputs(&self, a: &Arguments) -> Words {
         let [links, site, mu, nu, room] =
             [a.links.len(), a.site, a.mu, a.nu, a.found.len()].map(word);
-        let coupling = a.coupling.to_bits();
-        [
-            kind, seed, t, x, y, z, coupling, a.seed, links, site, ct, cx, cy, cz, mu, nu, room,
-        ]
+        let (ext, at) = (a.ext.map(word), a.at.map(word));
+        let numbers = [a.coupling.to_bits(), a.seed, links, site];
+        let others = [mu, nu, room, word(a.parity), a.pass];
+        let job = a.job.over(a.ext);
+        let parts: [&[u64]; 7] = [
+            &self.label,
+            &ext,
+            &numbers,
+            &at,
+            &others,
+            &job,
+            &[word(a.size)],
+        ];
+        parts.concat()
     }
 }
 
@@ -136,7 +149,7 @@ fn word(n: usize) -> u64 {
 }
 
 /// How many places of the two lists are not as expected, NaNs told apart too.
-fn changed(lent: &Lent, expected: &Lists) -> [u64; 2] {
+pub fn changed(lent: &Lent, expected: &Lists) -> [u64; 2] {
     let links = lent.links.iter().zip(&expected.links);
     let found = lent.found.iter().zip(&expected.found);
     [

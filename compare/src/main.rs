@@ -23,8 +23,10 @@ mod root;
 mod rows;
 mod sample;
 mod stopwatch;
+mod sweep;
 mod tally;
 mod times;
+mod update;
 mod words;
 
 use std::process::ExitCode;
@@ -33,13 +35,14 @@ use tally::Tally;
 /// A group of calls: its name, and what compares all its calls.
 type Group = (&'static str, fn(&mut Tally));
 
-const GROUPS: [Group; 8] = [
+const GROUPS: [Group; 9] = [
     ("words", words::compare),
     ("root", root::compare),
     ("generator", generator::compare),
     ("matrices", mat::compare),
     ("geometry", geometry::compare),
     ("lattice", lattice::compare),
+    ("sweep", sweep::compare),
     ("refusals", refusals::compare),
     ("replay", replay::compare),
 ];

@@ -1,12 +1,12 @@
 //! Every row of the table that these calls have: its example, and then all arguments, good and bad,
 //! with each other, so that each row is also met with others that hold.
 
-use crate::calls::{CALLS, Call};
+use crate::calls::{CALLS, Call, OVERRELAX_LINK};
 use crate::face::Four;
 use crate::fields::{self, KINDS};
 use crate::ground::{Ground, Lent, Lists};
-use crate::rows::{Arguments, Part};
-use crate::tally::{Tally, refused};
+use crate::rows::{Arguments, Job, Part};
+use crate::tally::Tally;
 
 /// The two extents that are good here; the list of links is as long as the second ones want.
 const GOOD: [Four; 2] = [[2, 2, 2, 2], [4, 2, 2, 2]];
@@ -57,11 +57,54 @@ const COORDINATES: [Four; 9] = [
     [usize::MAX; 4],
 ];
 
+const PARITIES: [usize; 5] = [0, 1, 2, 1 << 32, usize::MAX];
+const PASSES: [u64; 5] = [0, 7, 1 << 63, u64::MAX - 1, u64::MAX];
+const SIZES: [usize; 4] = [0, 1, 5, usize::MAX];
+
+/// Half the sites is 8 under the first good extents and 16 under the second.
+const JOBS: [Job; 24] = [
+    job([0, 0, 0, 0, 0]),
+    job([3, 1, 0, 0, u64::MAX]),
+    job([1, 0, 5, 5, 1]),
+    job([2, 1, 7, 3, 1 << 63]),
+    job([0, 1, 8, 0, 3]),
+    job([1, 1, 8, 8, 0]),
+    job([2, 0, 9, 0, 0]),
+    job([3, 0, 9, 9, 7]),
+    job([0, 0, 16, 2, 0]),
+    job([0, 0, 17, 0, 0]),
+    job([0, 0, u64::MAX, 0, 0]),
+    job([0, 0, 1 << 63, 1 << 63, 0]),
+    job([0, 0, 0, 1, 0]),
+    job([0, 0, 8, 9, 0]),
+    job([1, 0, 16, 17, 0]),
+    job([0, 0, 4, u64::MAX, 0]),
+    job([4, 0, 0, 0, 0]),
+    job([1 << 32, 0, 3, 1, 0]),
+    job([u64::MAX, 0, 0, 0, 0]),
+    job([0, 2, 0, 0, 0]),
+    job([3, 1 << 32, 2, 2, 0]),
+    job([0, u64::MAX, 8, 0, 0]),
+    job([4, 2, 9, 10, u64::MAX]),
+    job([u64::MAX; 5]),
+];
+
+/// From direction, parity, visited, stuck, pass.
+const fn job([direction, parity, visited, stuck, pass]: [u64; 5]) -> Job {
+    Job {
+        direction,
+        parity,
+        visited,
+        stuck,
+        pass,
+    }
+}
+
 /// A row's example from the document: the part that it spoils. A call that takes the part is refused
 /// with the row's number.
 type Example = (u32, Part, fn(&mut Arguments));
 
-const EXAMPLES: [Example; 9] = [
+const EXAMPLES: [Example; 15] = [
     (1, Part::Extents, |a| a.ext = [3, 2, 2, 2]),
     (1, Part::Extents, |a| a.ext = [2, 2, 2, 18]),
     (2, Part::Coupling, |a| a.coupling = -1.0),
@@ -70,6 +113,12 @@ const EXAMPLES: [Example; 9] = [
     (4, Part::Coordinates, |a| a.at = [0, 2, 0, 0]),
     (5, Part::Direction, |a| a.mu = 4),
     (5, Part::Other, |a| (a.mu, a.nu) = (1, 1)),
+    (6, Part::Parity, |a| a.parity = 2),
+    (7, Part::Pass, |a| a.pass = u64::MAX),
+    (8, Part::Job, |a| a.job.visited = 9),
+    (8, Part::Job, |a| (a.job.visited, a.job.stuck) = (3, 4)),
+    (8, Part::Job, |a| a.job.direction = 4),
+    (8, Part::Job, |a| a.job.parity = 2),
     (12, Part::Room, |a| a.found = &a.found[..63]),
 ];
 
@@ -120,11 +169,14 @@ impl Bench {
             if call.takes.contains(&part) {
                 let mut a = good;
                 spoil(&mut a);
-                ground.hold(tally, call, &a, lent, refused(row, call.width));
+                ground.hold(tally, call, &a, lent, call.refused(row, &a));
             }
         }
         if self.kind == "nan" && ANSWER_NUMBERS.contains(&call.name) {
-            ground.hold(tally, call, &good, lent, refused(10, call.width));
+            ground.hold(tally, call, &good, lent, call.refused(10, &good));
+        }
+        if self.kind == "nan" && call.name == OVERRELAX_LINK.name {
+            ground.hold(tally, call, &good, lent, call.refused(9, &good));
         }
     }
 
@@ -155,6 +207,10 @@ fn variants<'a>(part: Part, a: &Arguments<'a>, lent: &'a Lent) -> Vec<Arguments<
         Part::Coordinates => of(COORDINATES, |at| Arguments { at, ..*a }),
         Part::Direction => of(DIRECTIONS, |mu| Arguments { mu, ..*a }),
         Part::Other => of(DIRECTIONS, |nu| Arguments { nu, ..*a }),
+        Part::Parity => of(PARITIES, |parity| Arguments { parity, ..*a }),
+        Part::Pass => of(PASSES, |pass| Arguments { pass, ..*a }),
+        Part::Job => of(JOBS, |job| Arguments { job, ..*a }),
+        Part::Size => of(SIZES, |size| Arguments { size, ..*a }),
         Part::Room => of(ROOMS, |n| Arguments {
             found: &lent.found[..n],
             ..*a

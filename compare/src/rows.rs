@@ -1,10 +1,10 @@
-//! The document's table of refusals, for the calls of matrices and lattice: from what a call is
-//! handed to the number of the first row that holds.
+//! The document's table of refusals, for the calls of matrices, lattice and sweep: from what a call
+//! is handed to the number of the first row that holds.
 
-use crate::face::Four;
+use crate::face::{self, Four};
 use std::cell::Cell;
 
-/// What a call of the lattice can be handed.
+/// What a call of the lattice or of the sweep can be handed. A job's extents are `Extents`.
 #[derive(Clone, Copy, PartialEq)]
 pub enum Part {
     Extents,
@@ -15,11 +15,41 @@ pub enum Part {
     Direction,
     /// The second direction of a plane.
     Other,
+    Parity,
+    Pass,
+    Job,
+    /// Of a frame; nothing judges it.
+    Size,
     Room,
 }
 
-/// All that any call of the lattice can be handed; each takes its parts of it. The lists are cells:
-/// they are the lent ones, and a call may write to them.
+/// A job but for its extents.
+#[derive(Clone, Copy, Default)]
+pub struct Job {
+    pub direction: u64,
+    pub parity: u64,
+    pub visited: u64,
+    pub stuck: u64,
+    pub pass: u64,
+}
+
+impl Job {
+    /// As the header has it.
+    pub fn over(self, ext: Four) -> face::Job {
+        let [t, x, y, z] = ext.map(|n| n as u64);
+        let Self {
+            direction,
+            parity,
+            visited,
+            stuck,
+            pass,
+        } = self;
+        [t, x, y, z, direction, parity, visited, stuck, pass]
+    }
+}
+
+/// All that any of these calls can be handed; each takes its parts of it. The lists are cells: they
+/// are the lent ones, and a call may write to them.
 #[derive(Clone, Copy)]
 pub struct Arguments<'a> {
     pub ext: Four,
@@ -30,6 +60,10 @@ pub struct Arguments<'a> {
     pub at: Four,
     pub mu: usize,
     pub nu: usize,
+    pub parity: usize,
+    pub pass: u64,
+    pub job: Job,
+    pub size: usize,
     pub found: &'a [Cell<u32>],
 }
 
@@ -42,13 +76,16 @@ impl Arguments<'_> {
 
 type Row = fn(&[Part], &Arguments) -> bool;
 
-/// In the order in which they are tried. Row 10, on the answer, comes after all of them.
-const ROWS: [(u32, Row); 6] = [
+/// In the order in which they are tried. Rows 9 and 10, on the answer, come after all of them.
+const ROWS: [(u32, Row); 9] = [
     (1, extents),
     (2, coupling),
     (3, lengths),
     (4, places),
     (5, directions),
+    (6, parities),
+    (7, passes),
+    (8, jobs),
     (12, rooms),
 ];
 
@@ -96,6 +133,24 @@ fn places(parts: &[Part], a: &Arguments) -> bool {
 fn directions(parts: &[Part], a: &Arguments) -> bool {
     let one = parts.contains(&Part::Direction) && a.mu > 3;
     one || (parts.contains(&Part::Other) && (a.nu > 3 || a.mu == a.nu))
+}
+
+/// A parity above 1.
+fn parities(parts: &[Part], a: &Arguments) -> bool {
+    parts.contains(&Part::Parity) && a.parity > 1
+}
+
+/// Opening with the last pass, after which there is none.
+fn passes(parts: &[Part], a: &Arguments) -> bool {
+    parts.contains(&Part::Pass) && a.pass == u64::MAX
+}
+
+/// A job's visited above half the sites, its stuck above visited, or its direction or parity out of
+/// range. Its pass is not judged.
+fn jobs(parts: &[Part], a: &Arguments) -> bool {
+    let job = a.job;
+    let counts = || job.visited > a.sites() as u64 / 2 || job.stuck > job.visited;
+    parts.contains(&Part::Job) && (counts() || job.direction > 3 || job.parity > 1)
 }
 
 /// Room for unsound links below four times the sites.

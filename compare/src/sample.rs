@@ -44,8 +44,11 @@
 //! of it are 0, by one more, d. With p = (d / 2^8) mod 18, the top three bits of d say: 0, all 18
 //! numbers are +0; 1, number p is NaN; 2, +infinity; 3, 1e200; 4, 2^-1074; 5, all are multiplied by
 //! 1e-13; 6, number p is -0; 7, all are multiplied by 1e160.
+//!
+//! The overrelaxation comes last: its file has its lines.
 
 mod hash;
+mod sweep;
 
 use crate::calls::{
     ACTION, AVERAGE_PLAQUETTE, BWD, COORDS, Call, FWD, PARITY, PLAQUETTE, POLYAKOV_LOOP, STAPLE,
@@ -85,7 +88,7 @@ fn all(to: &mut String) -> std::fmt::Result {
             field(to, kind, ext)?;
         }
     }
-    Ok(())
+    sweep::lines(to)
 }
 
 fn arithmetic(to: &mut String) -> std::fmt::Result {

@@ -1,4 +1,4 @@
-//! Times two sides of one call against each other.
+//! Times two sides of one call against each other, or one side by itself.
 
 use std::fmt;
 use std::hint::black_box;
@@ -36,6 +36,18 @@ impl Row {
         let [rattle, rust] = best.map(|t| t.as_nanos() as f64 / calls as f64);
         Self { call, rattle, rust }
     }
+}
+
+/// The best round in nanoseconds a call, where `pass` makes `calls` calls.
+pub fn best(calls: usize, mut pass: impl FnMut() -> u64) -> f64 {
+    let start = Instant::now();
+    let mut best = Duration::MAX;
+    let mut rounds = 0;
+    while rounds < ROUNDS || start.elapsed() < SPAN / 4 {
+        best = time(&mut |()| pass(), ()).min(best);
+        rounds += 1;
+    }
+    best.as_nanos() as f64 / calls as f64
 }
 
 /// One pass. It is not inlined and the function is hidden from it, so that both sides run through

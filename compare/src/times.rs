@@ -9,6 +9,18 @@
 
 mod lattice;
 mod mat;
+mod sweep;
+
+/// The reference once more, for the calls on a whole field alone. Were its functions also used
+/// elsewhere, the compiler would not inline them into these calls as it does in a program that has no
+/// other use for them: a single call is timed with the comparison's reference.
+#[allow(clippy::duplicate_mod)]
+#[path = "reference.rs"]
+mod reference;
+
+#[allow(dead_code, clippy::duplicate_mod)]
+#[path = "flat.rs"]
+mod flat;
 
 use crate::face::{self, State};
 use crate::inputs::Source;
@@ -42,9 +54,15 @@ pub fn print() {
     ] {
         println!("{row}");
     }
-    for row in mat::rows().into_iter().chain(lattice::rows()) {
+    for row in mat::rows()
+        .into_iter()
+        .chain(lattice::rows())
+        .chain(sweep::rows())
+    {
         println!("{row}");
     }
+    println!();
+    sweep::print_frames();
 }
 
 fn list<T>(make: impl FnMut() -> T) -> Vec<T> {

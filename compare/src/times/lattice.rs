@@ -1,6 +1,7 @@
 //! Calls on a field of the group. A call on the whole field counts as one for each site, so that the
 //! table has the time of a site.
 
+use super::reference::su3::lattice as whole;
 use crate::face::{self, Four};
 use crate::fields::{self, KINDS};
 use crate::flat;
@@ -21,6 +22,8 @@ struct Field {
     room: Vec<Cell<f64>>,
     found: Vec<Cell<u32>>,
     lattice: Su3Lattice,
+    /// For the reference's calls on the whole of it.
+    whole: whole::Su3Lattice,
     plain: Vec<f64>,
 }
 
@@ -38,6 +41,7 @@ impl Field {
             room: vec![Cell::new(0.0); plain.len()],
             found: vec![Cell::new(0); plain.len() / 18],
             lattice: flat::lattice(ext, &plain),
+            whole: super::flat::lattice(ext, &plain),
             plain,
         }
     }
@@ -112,7 +116,7 @@ fn average(field: &Field) -> u64 {
 }
 
 fn rust_average(field: &Field) -> u64 {
-    field.lattice.average_plaquette().to_bits()
+    field.whole.average_plaquette().to_bits()
 }
 
 fn polyakov(field: &Field) -> u64 {
@@ -120,7 +124,7 @@ fn polyakov(field: &Field) -> u64 {
 }
 
 fn rust_polyakov(field: &Field) -> u64 {
-    field.lattice.polyakov_loop().re.to_bits()
+    field.whole.polyakov_loop().re.to_bits()
 }
 
 fn link_check(field: &Field) -> u64 {
@@ -146,5 +150,5 @@ fn cold(field: &Field) -> u64 {
 
 /// With its lists from the heap and its tables of neighbours.
 fn rust_cold(field: &Field) -> u64 {
-    black_box(Su3Lattice::cold(field.ext, 6.0, 1)).n_sites() as u64
+    black_box(whole::Su3Lattice::cold(field.ext, 6.0, 1)).n_sites() as u64
 }
