@@ -38,10 +38,12 @@ fn advance(
     ensures { λ r. ⌜ Advanced d mu p from count (now (links .entry)) r (now (links .exit)) ⌝ }
 {
     let mut stuck = 0;
-    for k in 0..count {
+    let mut k = 0;
+    while k < count {
         if visit(links, d, geometry::nth(d, p, from + k), mu) {
             stuck += 1;
         }
+        k += 1;
     }
     stuck
 }
@@ -61,7 +63,8 @@ pub fn frame_overrelax(job: Job, size: usize, links: &mut [f64]) -> Framed
         return Framed { refusal: row, job };
     }
     let extents = job.extents;
-    let count = lesser(size, geometry::sites(extents) / 2 - job.visited);
+    let left = geometry::sites(extents) / 2 - job.visited;
+    let count = lesser(size, left);
     let stuck = advance(
         links,
         extents,

@@ -26,57 +26,58 @@ Inv-loop links₀ d mu p from count stuck₀ k₀ links stuck k =
 abbrev μ-loop : tie.MeasureT-loop
 μ-loop links₀ d mu p from count stuck₀ k₀ links stuck k = count - k
 
+-- within the loop
+goes-on : (c : tie.In-loop Inv-loop μ-loop) → c .before .loop .k < c .before .before .before .args .count
+goes-on c = c .loop-test .taken
+
+room : (c : tie.In-loop Inv-loop μ-loop) → c .before .before .before .args .from + c .before .loop .k < halfOf (c .before .before .before .args .d)
+room c = let all = c .before .before .before .pre .room in omega (arith, goes-on c)
+
 loop-holds : tie.Need-loop-holds Inv-loop μ-loop
 unfolding stuckAmong
-loop-holds c =
-    let run = c .before .pre in
-    (omega arith, visits-none _ _ _ (run .holds .long), refl, refl, omega arith)
+loop-holds c = (omega arith, visits-none _ _ _ (c .before .pre .holds .long), refl, refl, omega arith)
 
 add-nth : tie.Need-add-nth Inv-loop μ-loop
 add-nth c =
-    let run = c .before .before .before .before .pre in
-    let high = volume-high _ (run .holds .shape) in
-    let half = halves _ (run .holds .shape) in
-    let room = run .room in
-    omega arith
+    let shape = c .before .before .before .before .pre .holds .shape in
+    let high = volume-high _ shape in
+    let half = halves _ shape in
+    omega (arith, room (c .before))
 
 nth-requires : tie.Need-nth-requires Inv-loop μ-loop
-nth-requires c κs =
-    let run = c .before .before .before .before .pre in
-    let room = run .room in
-    (run .holds .shape, run .two, omega arith)
+nth-requires c κs = let run = c .before .before .before .before .pre in (run .holds .shape, run .two, room (c .before))
 
 visit-requires : tie.Need-visit-requires Inv-loop μ-loop
 visit-requires c κs =
     let run = c .before .before .before .before .before .pre in
-    let room = run .room in
-    let long = c .before .before .before .loop .inv .3 ∙ run .holds .long in
-    record { holds = record { shape = run .holds .shape; long = long }; below = rw (c .nth .ensures) (nth-below _ (run .holds .shape) _ _ (omega arith)); axis = run .axis }
+    record {
+      holds = record { shape = run .holds .shape; long = c .before .before .before .loop .inv .3 ∙ run .holds .long };
+      below = rw (c .nth .ensures) (nth-below _ (run .holds .shape) _ _ (room (c .before .before)));
+      axis = run .axis;
+    }
 
 add-stuck : tie.Need-add-stuck Inv-loop μ-loop
 add-stuck c =
-    let run = c .before .before .before .before .before .before .before .before .before .pre in
-    let high = volume-high _ (run .holds .shape) in
-    let half = halves _ (run .holds .shape) in
-    let room = run .room in
+    let shape = c .before .before .before .before .before .before .before .before .before .pre .holds .shape in
+    let high = volume-high _ shape in
+    let half = halves _ shape in
+    let all = c .before .before .before .before .before .before .before .before .before .pre .room in
     let few = c .before .before .before .before .before .before .before .loop .inv .4 in
-    let less = c .before .before .before .before .before .before .loop-test .taken in
-    omega (arith, few, less)
+    omega (arith, few, goes-on (c .before .before .before .before .before .before))
 
 add-k : tie.Need-add-k Inv-loop μ-loop
-add-k c = omega arith
+add-k c = let less = goes-on (c .before .before .before .before .before .before) in omega arith
 
 loop-less : tie.Need-loop-less Inv-loop μ-loop
-loop-less c = omega arith
+loop-less c = let less = goes-on (c .before .before .before .before .before .before) in omega arith
 
 carry : (a b x s t : ℕ) → a ≡ b + x → b ≡ s → s + x ≡ t → a ≡ t
 carry a b x s t e f g = omega arith
 
-abbrev place : tie.Joined1 Inv-loop μ-loop → ℕ
-place c = c .before .before .before .before .nth .result
-
 -- how the count went on
-counted : (c : tie.Joined1 Inv-loop μ-loop) → (c .if1 .stuck ≡ c .before .before .before .before .before .before .before .loop .stuck + stuckLinks (c .before .before .before .before .before .before .before .before .before .args .d) (c .before .before .before .before .before .before .before .before .before .args .mu) (linkOf (c .before .before .before .before .before .before .before .before .before .args .d) (c .before .before .before .before .before .before .before .loop .links)) (place c ∷ [])) × (c .if1 .stuck ≤ c .before .before .before .before .before .before .before .loop .stuck + 1)
+counted : (c : tie.Joined1 Inv-loop μ-loop)
+    → (c .if1 .stuck ≡ c .before .before .before .before .before .before .before .loop .stuck + stuckLinks (c .before .before .before .before .before .before .before .before .before .args .d) (c .before .before .before .before .before .before .before .before .before .args .mu) (linkOf (c .before .before .before .before .before .before .before .before .before .args .d) (c .before .before .before .before .before .before .before .loop .links)) (c .before .before .before .before .nth .result ∷ []))
+    × (c .if1 .stuck ≤ c .before .before .before .before .before .before .before .loop .stuck + 1)
 counted c =
     ⊎-elim
     (λ w. let s = one-stuck _ _ _ _ (sym (c .before .before .before .visit .ensures .stuck) ∙ w .0 .taken) in (rw s (w .1), omega (arith, w .1)))
@@ -85,15 +86,16 @@ counted c =
 
 loop-again : tie.Need-loop-again Inv-loop μ-loop
 loop-again c =
+    let turn = c .before .before .before .before .before .before in
     let run = c .before .before .before .before .before .before .before .before .before .pre in
     let inv = c .before .before .before .before .before .before .before .loop .inv in
-    let less = c .before .before .before .before .before .before .loop-test .taken in
-    let within : c .before .before .before .before .before .before .before .before .before .args .from + c .before .before .before .before .before .before .before .loop .k < halfOf (c .before .before .before .before .before .before .before .before .before .args .d) = let room = run .room in omega (arith, less) in
-    let site = c .before .before .before .before .nth .ensures in (
-      omega (arith, less),
-      c .before .before .before .visit .ensures .links ∙ visits-next _ (run .holds .shape) _ _ (run .axis) (run .two) _ _ _ _ _ within site (inv .1),
-      carry _ _ _ _ _ (counted c .0) (inv .2) (count-next _ (run .holds .shape) _ _ (run .axis) (run .two) _ _ _ _ _ within site (inv .1)),
-      c .before .before .before .visit .kept .0 ∙ inv .3,
+    let site = c .before .before .before .before .nth .ensures in
+    let visit = c .before .before .before .visit in
+    (
+      omega (arith, goes-on turn),
+      visit .ensures .links ∙ visits-next _ (run .holds .shape) _ _ (run .axis) (run .two) _ _ _ _ _ (room turn) site (inv .1),
+      carry _ _ _ _ _ (counted c .0) (inv .2) (count-next _ (run .holds .shape) _ _ (run .axis) (run .two) _ _ _ _ _ (room turn) site (inv .1)),
+      visit .kept .0 ∙ inv .3,
       omega (arith, counted c .1, inv .4),
     )
 

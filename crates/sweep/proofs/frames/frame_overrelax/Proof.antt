@@ -24,9 +24,9 @@ returns c = frame-refused _ _ _ (c .before .frame-row .ensures .row) (c .if1 .ta
 sites-requires : tie.Need-sites-requires
 sites-requires c κs = judged (c .before) .0
 
-sub-lesser : tie.Need-sub-lesser
+sub-left : tie.Need-sub-left
 unfolding halfOf
-sub-lesser c = rw (c .before .sites .ensures) (judged (c .before .before .before) .2 .visited)
+sub-left c = rw (c .before .sites .ensures) (judged (c .before .before .before) .2 .visited)
 
 least : (c : tie.After-advance-arg) → c .before .lesser .result ≡ min (c .before .before .before .before .before .before .before .before .args .size) (halfOf (c .before .before .before .before .before .before .before .before .args .job .extents) - c .before .before .before .before .before .before .before .before .args .job .visited)
 unfolding halfOf
@@ -62,4 +62,4 @@ returns-2 c =
     (frame-accepted _ _ _ (c .before .before .before .before .before .before .before .before .before .before .before .frame-row .ensures .row) (c .before .before .before .before .before .before .before .before .before .before .if1 .left))
 
 pub frame-overrelax-spec : {M : Type 1} → statement M
-frame-overrelax-spec = tie.close (tie.spec (λ c κs. search needs) returns sites-requires sub-lesser (λ c κs. search needs) advance-requires (λ c. search needs) add-t12 (λ c. search needs) returns-2)
+frame-overrelax-spec = tie.close (tie.spec (λ c κs. search needs) returns sites-requires sub-left (λ c κs. search needs) advance-requires (λ c. search needs) add-t12 (λ c. search needs) returns-2)
