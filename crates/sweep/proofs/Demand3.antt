@@ -144,12 +144,12 @@ module _ (q : Plan) (mu p : ℕ) (l₀ : List Float) (ok : Accepted q mu p) (lon
   holds : (s : ℕ) → Same (q .extents) (linkOf (q .extents) (linksAfter s)) (overrelaxedField (q .extents) mu (linkOf (q .extents) l₀) (firstSites (q .extents) p s))
   holds s = links-of (q .extents) _ (field-nine (q .extents) mu l₀ (firstSites (q .extents) p s))
 
-  swept-at : (s : ℕ) → s ≤ halfOf (q .extents) → Swept q mu p l₀ s (stateAt s)
+  swept-at : (s : ℕ) → s ≤ halfOf (q .extents) → Swept (q .extents) (linkOf (q .extents) l₀) mu p (q .pass) s (stateAt s)
   swept-at s h = record {
     count = first-count s h;
     updated = λ n m. holds s mu n (ok .axis) (part-inside (q .extents) p 0 s n m .0) ∙ visited-in (overrelax (q .extents) mu) mu (linkOf (q .extents) l₀) (firstSites (q .extents) p s) mu n refl m;
     kept = λ nu n a b out. holds s nu n a b ∙ visited-out (overrelax (q .extents) mu) mu (linkOf (q .extents) l₀) (firstSites (q .extents) p s) nu n out;
-    long = length-list (q .extents) _ ∙ sym long;
+    long = length-list (q .extents) _;
     visited = refl;
     stuck = refl;
     extents = refl;

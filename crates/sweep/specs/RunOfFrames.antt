@@ -8,6 +8,7 @@ use lib.ListN.{length, take}
 use Rattle.rows.specs.Rows.{ifAccepted}
 use Rattle.geometry.specs.Radix.{volume}
 use Rattle.geometry.specs.Order.{sitesOf, halfOf}
+use Rattle.links.specs.Field.{Field}
 use Rattle.gauge.specs.Field.{linkOf}
 use Rattle.gauge.specs.Update.{updateOf}
 use Rattle.lattice.specs.declared.Plan.{Plan}
@@ -74,25 +75,23 @@ Answered b (other size l ∷ fs) =
 abbrev pub firstSites : List ℕ → ℕ → ℕ → List ℕ
 firstSites d p s = take s (sitesOf d p)
 
--- s sites of the half-sweep that the plan opened in direction μ and parity p on the links l have been visited
-pub record Swept (q : Plan) (mu p : ℕ) (l : List Float) (s : ℕ) (b : Between) : Type 0 where
-  pub count : length (firstSites (q .extents) p s) ≡ s
-  -- the link of each in direction μ is what the one-link update gives from the field at opening, or as it was if it is stuck there
-  pub updated : (n : ℕ) → List·Mem n (firstSites (q .extents) p s)
-      → linkOf (q .extents) (b .links) mu n ≡ visitedLink (updateOf (q .extents) (linkOf (q .extents) l) n mu) (linkOf (q .extents) l mu n)
-  -- all other links keep their bits
-  pub kept : (nu n : ℕ) → nu < 4 → n < volume (q .extents) → (nu ≡ mu → List·Mem n (firstSites (q .extents) p s) → ⊥)
-      → linkOf (q .extents) (b .links) nu n ≡ linkOf (q .extents) l nu n
-  pub long : length (b .links) ≡ length l
+-- s sites of a half-sweep in direction μ and parity p, opened with pass k on the field U, have been visited
+pub record Swept (d : List ℕ) (U : Field) (mu p k s : ℕ) (b : Between) : Type 0 where
+  pub count : length (firstSites d p s) ≡ s
+  -- the link of each in direction μ is what the one-link update gives from U, or its old one if it is stuck there
+  pub updated : (n : ℕ) → List·Mem n (firstSites d p s) → linkOf d (b .links) mu n ≡ visitedLink (updateOf d U n mu) (U mu n)
+  -- all other links are the old ones
+  pub kept : (nu n : ℕ) → nu < 4 → n < volume d → (nu ≡ mu → List·Mem n (firstSites d p s) → ⊥) → linkOf d (b .links) nu n ≡ U nu n
+  pub long : length (b .links) ≡ 72 * volume d
   pub visited : b .job .visited ≡ s
-  -- the number of visited links stuck in the field at opening
-  pub stuck : b .job .stuck ≡ stuckLinks (q .extents) mu (linkOf (q .extents) l) (firstSites (q .extents) p s)
-  pub extents : b .job .extents ≡ q .extents
+  -- the number of visited links that are stuck in U
+  pub stuck : b .job .stuck ≡ stuckLinks d mu U (firstSites d p s)
+  pub extents : b .job .extents ≡ d
   pub direction : b .job .direction ≡ mu
   pub parity : b .job .parity ≡ p
-  pub pass : b .job .pass ≡ q .pass
+  pub pass : b .job .pass ≡ k
   -- finished exactly when s is half the sites
-  pub finished : finishedCall (b .job) ≡ record { refusal = 0; finished = eqb s (halfOf (q .extents)) }
+  pub finished : finishedCall (b .job) ≡ record { refusal = 0; finished = eqb s (halfOf d) }
 
 -- ## The claim
 
@@ -108,5 +107,5 @@ Demand3 =
     (q : Plan) (mu p : ℕ) (l : List Float) (frames : List Frame)
     → Opening q mu p l
     → OthersMisfit (72 * volume (q .extents)) frames
-    → Swept q mu p l (min (acceptedSum (opened q mu p l) frames) (halfOf (q .extents))) (run (opened q mu p l) frames)
+    → Swept (q .extents) (linkOf (q .extents) l) mu p (q .pass) (min (acceptedSum (opened q mu p l) frames) (halfOf (q .extents))) (run (opened q mu p l) frames)
     × Answered (opened q mu p l) frames

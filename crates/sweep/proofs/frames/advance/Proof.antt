@@ -90,8 +90,7 @@ loop-again c =
     let run = c .before .before .before .before .before .before .before .before .before .pre in
     let inv = c .before .before .before .before .before .before .before .loop .inv in
     let site = c .before .before .before .before .nth .ensures in
-    let visit = c .before .before .before .visit in
-    (
+    let visit = c .before .before .before .visit in (
       omega (arith, goes-on turn),
       visit .ensures .links ∙ visits-next _ (run .holds .shape) _ _ (run .axis) (run .two) _ _ _ _ _ (room turn) site (inv .1),
       carry _ _ _ _ _ (counted c .0) (inv .2) (count-next _ (run .holds .shape) _ _ (run .axis) (run .two) _ _ _ _ _ (room turn) site (inv .1)),
