@@ -19,7 +19,7 @@ use Rattle.geometry.proofs.Range.{length-listed, listed-at}
 use Rattle.links.specs.Store.{cellAt, matrixAt}
 use Rattle.links.specs.Field.{Field, placeOf}
 use Rattle.links.proofs.Laws.{entry-at, matrix-is}
-use Rattle.gauge.specs.Field.{linkOf, partOf, listOf}
+use Rattle.gauge.specs.Field.{linkOf, partOf, listOf, ListIsField}
 
 -- two fields have the same links
 abbrev pub Same : List ℕ → Field → Field → Type 0
@@ -112,3 +112,6 @@ module _ (d : List ℕ) where
 
   pub links-of : (U : Field) → ((mu n : ℕ) → length (U mu n .m) ≡ 9) → Same d (linkOf d (listOf d U)) U
   links-of U nine mu n axis below = matrix-is (listOf d U) (placeOf (volume d) mu n) (U mu n) (nine mu n) (cell-of U mu n axis below)
+
+pub list-is-field : ListIsField
+list-is-field = record { list = list-is; field = links-of }

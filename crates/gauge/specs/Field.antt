@@ -25,6 +25,11 @@ partOf u i = cond (eqb (i % 2) 0) (ent u (i / 2) .re) (ent u (i / 2) .im)
 unfoldable pub listOf : List ℕ → Field → List Float
 listOf d U = map (λ k. partOf (U (k / 18 / volume d) (k / 18 % volume d)) (k % 18)) (range (72 * volume d))
 
+-- a list is that of its field, and the field of U's list is U
+pub record ListIsField : Type 0 where
+  pub list : (d : List ℕ) (l : List Float) → length l ≡ 72 * volume d → l ≡ listOf d (linkOf d l)
+  pub field : (d : List ℕ) (U : Field) → ((mu n : ℕ) → length (U mu n .m) ≡ 9) → (mu n : ℕ) → mu < 4 → n < volume d → linkOf d (listOf d U) mu n ≡ U mu n
+
 -- a list that holds a field of these extents
 pub record Holds (d : List ℕ) (l : List Float) : Type 0 where
   pub shape : Shape d

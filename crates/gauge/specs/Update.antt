@@ -1,4 +1,4 @@
--- The one-link update: `update_link` with `Overrelax`, after Cabibbo and Marinari. A link that it leaves alone is stuck.
+-- The one-link update: `update_link` with `Overrelax`, after Cabibbo and Marinari. Where it has no result, the link is stuck.
 use Prim.Native.Nat.{ℕ, _<_}
 use mathlib.Core.Bool.{Bool, true, false, cond}
 use mathlib.Core.List.{List, [], _∷_}
@@ -27,7 +27,7 @@ isStuck Stuck.No = false
 isStuck Stuck.ShortNorm = true
 isStuck Stuck.NotFinite = true
 
--- a stuck link's update has no matrix
+-- a stuck link's update: the cause, and zeros for the matrix
 abbrev pub stuckLink : Stuck → Updated
 stuckLink cause = record { stuck = cause; link = zeroOf }
 
@@ -42,7 +42,7 @@ quatOver v k = record {
   a3 = div binary64 (v .a3) k;
 }
 
--- X = v̂†² with v̂ = v / |v|: the reflection through v̂, which keeps Re Tr(X w)
+-- X = v̂†² with v̂ = v / |v|: the reflection through v̂, which in exact numbers keeps Re Tr(X w); of f64 nothing is claimed
 unfoldable pub reflectionOf : Quat → Mat2
 reflectionOf v =
     let h = quatConj (quatOver v (quatNorm v)) in
@@ -55,7 +55,7 @@ isShort k = lt k (ofBits binary64 0x3d71_9799_812d_ea11)
 unfoldable pub shortNorm : Quat → Bool
 shortNorm v = isShort (quatNorm v)
 
--- an update with a number that isn't finite is none
+-- a result with a number that isn't finite is a stuck link's
 unfoldable pub ifFinite : Su3 → Updated
 ifFinite u = cond (finiteMatrix u) (record { stuck = Stuck.No; link = u }) (stuckLink Stuck.NotFinite)
 

@@ -5,7 +5,8 @@ use Rattle.geometry.proofs.Shape.{fits-shape, shape-fits}
 use Rattle.geometry.proofs.Radix.{coords-within, index-below, coords-index, index-coords}
 use Rattle.geometry.proofs.Steps.{moved-flips}
 use Rattle.geometry.proofs.Neighbour.{bwd-fwd, fwd-bwd}
-use Rattle.geometry.proofs.Order.{count-sites, site-at}
+use Rattle.geometry.proofs.Order.{count-sites, site-at, nth-rises}
+use Rattle.geometry.proofs.Members.{site-inside, inside-site, sites-once}
 
 pub fits-is-shape : FitsIsShape
 fits-is-shape = record { passes = shape-fits; passed = fits-shape }
@@ -20,4 +21,4 @@ pub parity-flips : ParityFlips
 parity-flips d n mu k below axis = moved-flips d (omega arith) n mu axis k
 
 pub sites-in-order : SitesInOrder
-sites-in-order = record { count = count-sites; nth = site-at }
+sites-in-order = record { inside = site-inside; all = inside-site; once = sites-once; count = count-sites; nth = site-at; rises = nth-rises }

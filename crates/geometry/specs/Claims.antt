@@ -1,7 +1,7 @@
--- What is proved of extents, sites, neighbours and parities. All but the first and the last hold for any extents and any axis.
+-- What is proved of extents, sites, neighbours and parities. All but the first and, of the last, count and nth hold for any extents and any axis.
 use Prim.Native.Nat.{ℕ, _+_, _%_, _<_}
 use mathlib.Core.Bool.{true}
-use mathlib.Core.List.{List}
+use mathlib.Core.List.{List, List·Mem, List·Nodup}
 use mathlib.Core.Path.{_≡_}
 use lib.ListN.{length, getD}
 use Rattle.geometry.specs.Radix.{volume, coordsOf, indexOf, Within}
@@ -31,7 +31,11 @@ abbrev pub ParityFlips : Type 0
 ParityFlips =
     (d : List ℕ) (n mu k : ℕ) → n < volume d → mu < length d → getD d mu 0 % 2 ≡ 0 → k % 2 ≡ 1 → parityOf d (movedOf d n mu k) + parityOf d n ≡ 1
 
--- the sites of a parity are half of all, and the k-th is nthOf's
+-- the sites of a parity: each of them and no other, once; half of all; the k-th is nthOf's, which rises with k
 pub record SitesInOrder : Type 0 where
+  pub inside : (d : List ℕ) (p n : ℕ) → List·Mem n (sitesOf d p) → (n < volume d) × (parityOf d n ≡ p)
+  pub all : (d : List ℕ) (p n : ℕ) → n < volume d → parityOf d n ≡ p → List·Mem n (sitesOf d p)
+  pub once : (d : List ℕ) (p : ℕ) → List·Nodup (sitesOf d p)
   pub count : (d : List ℕ) → Shape d → (p : ℕ) → p < 2 → length (sitesOf d p) ≡ halfOf d
   pub nth : (d : List ℕ) → Shape d → (p : ℕ) → p < 2 → (k : ℕ) → k < halfOf d → getD (sitesOf d p) k 0 ≡ nthOf d p k
+  pub rises : (d : List ℕ) (p i k : ℕ) → i < k → nthOf d p i < nthOf d p k

@@ -1,4 +1,4 @@
--- Each call's rows, in the order in which they are tried; row 10 comes after them. d are extents, c a coupling, long the number of link numbers.
+-- Each call's rows, in the order in which they are tried; rows 9 and 10 come after them. d are extents, c a coupling, long the number of link numbers.
 use Prim.Native.Nat.{ℕ}
 use mathlib.Core.Bool.{Bool}
 use mathlib.Core.List.{List, [], _∷_}
@@ -36,7 +36,7 @@ planRows d c long = (badExtents d, 1) ∷ (badCoupling c, 2) ∷ (badLinks d lon
 abbrev pub planeRows : List ℕ → ℕ → ℕ → ℕ → ℕ → Rows
 planeRows d long n mu nu = (badExtents d, 1) ∷ (badLinks d long, 3) ∷ (badSite d n, 4) ∷ (badPlane mu nu, 5) ∷ []
 
--- staple
+-- staple, overrelax_link
 abbrev pub linkRows : List ℕ → Float → ℕ → ℕ → ℕ → Rows
 linkRows d c long n mu = (badExtents d, 1) ∷ (badCoupling c, 2) ∷ (badLinks d long, 3) ∷ (badSite d n, 4) ∷ (badDirection mu, 5) ∷ []
 

@@ -11,6 +11,7 @@ use lib.Ieee.{Float}
 use lib.ListN.{length}
 use lib.Seq.{take-all}
 use borrow.Author.Tests.{eqb-true}
+use Rattle.mat.specs.declared.Su3.{Su3}
 use Rattle.geometry.specs.Radix.{volume}
 use Rattle.geometry.specs.Steps.{parityOf}
 use Rattle.geometry.specs.Order.{sitesOf, halfOf}
@@ -26,32 +27,37 @@ use Rattle.sweep.specs.declared.FinishedAnswer.{FinishedAnswer}
 use Rattle.sweep.specs.Visits.{visitedLink, stuckAmong, overrelax, overrelaxedField, stuckLinks}
 use Rattle.sweep.specs.Jobs.{openCall, openRow, finishedCall}
 use Rattle.sweep.specs.RunOfFrames.{Frame, opened, run, acceptedSum, OthersMisfit, firstSites, Opening}
-use Rattle.sweep.specs.Sweeps.{halfSweepOf, freeHalfSweep, FinishedIsHalfSweep, CutsDoNotMatter}
+use Rattle.sweep.specs.Sweeps.{onSet, halfSweepOf, freeHalfSweep, FinishedIsHalfSweep, CutsDoNotMatter}
 use Rattle.sweep.proofs.Laws.{Accepted, accepted-opening}
 use Rattle.sweep.proofs.Visited.{visited-in, visited-out}
-use Rattle.sweep.proofs.Demand3.{stateAt, ran, opened-state, demand3}
+use Rattle.sweep.proofs.RunOfFrames.{stateAt, ran, opened-state, frames-are-visits}
 
 -- ## a half-sweep's field
 
-module _ (d : List ℕ) (U : Field) (mu p nu n : ℕ) where
-  half-in : nu ≡ mu → parityOf d n ≡ p → halfSweepOf d U (mu, p) nu n ≡ visitedLink (updateOf d U n mu) (U nu n)
-  unfolding halfSweepOf
-  half-in e f = if-pos (Dec·and (ℕ-discrete nu mu) (ℕ-discrete (parityOf d n) p)) (e, f) _ _
+-- a set's links, and all others
+module _ (d : List ℕ) (mu p : ℕ) (new : ℕ → Su3) (U : Field) (nu n : ℕ) where
+  on-set : nu ≡ mu → parityOf d n ≡ p → onSet d (mu, p) new U nu n ≡ new n
+  unfolding onSet
+  on-set e f = if-pos (Dec·and (ℕ-discrete nu mu) (ℕ-discrete (parityOf d n) p)) (e, f) (new n) (U nu n)
 
-  half-out : (nu ≡ mu → parityOf d n ≡ p → ⊥) → halfSweepOf d U (mu, p) nu n ≡ U nu n
-  unfolding halfSweepOf
-  half-out e = if-neg (Dec·and (ℕ-discrete nu mu) (ℕ-discrete (parityOf d n) p)) (λ h. e (h .0) (h .1)) _ _
+  off-set : (nu ≡ mu → parityOf d n ≡ p → ⊥) → onSet d (mu, p) new U nu n ≡ U nu n
+  unfolding onSet
+  off-set e = if-neg (Dec·and (ℕ-discrete nu mu) (ℕ-discrete (parityOf d n) p)) (λ h. e (h .0) (h .1)) (new n) (U nu n)
 
 -- visits of all sites of a parity are a half-sweep
 all-visited : (d : List ℕ) (U : Field) (mu p : ℕ) → Same d (overrelaxedField d mu U (sitesOf d p)) (halfSweepOf d U (mu, p))
 all-visited d U mu p nu n h g = go (ℕ-discrete nu mu) (ℕ-discrete (parityOf d n) p)
   where
-    go : Dec (nu ≡ mu) → Dec (parityOf d n ≡ p) → overrelaxedField d mu U (sitesOf d p) nu n ≡ halfSweepOf d U (mu, p) nu n
+    new : ℕ → Su3
+    new m = visitedLink (updateOf d U m mu) (U mu m)
+
+    go : Dec (nu ≡ mu) → Dec (parityOf d n ≡ p) → overrelaxedField d mu U (sitesOf d p) nu n ≡ onSet d (mu, p) new U nu n
     go (yes e) (yes f) =
-        visited-in (overrelax d mu) mu U (sitesOf d p) nu n e (inside-site d p n g f) ∙ sym (half-in d U mu p nu n e f)
-    go (yes e) (no f) =
-        visited-out (overrelax d mu) mu U (sitesOf d p) nu n (λ a m. f (site-inside d p n m .1)) ∙ sym (half-out d U mu p nu n (λ a. f))
-    go (no e) f = visited-out (overrelax d mu) mu U (sitesOf d p) nu n (λ a m. e a) ∙ sym (half-out d U mu p nu n (λ a b. e a))
+        visited-in (overrelax d mu) mu U (sitesOf d p) nu n e (inside-site d p n g f)
+        ∙ ap (λ (k : ℕ). visitedLink (updateOf d U n mu) (U k n)) e
+        ∙ sym (on-set d mu p new U nu n e f)
+    go (yes e) (no f) = visited-out (overrelax d mu) mu U (sitesOf d p) nu n (λ a m. f (site-inside d p n m .1)) ∙ sym (off-set d mu p new U nu n (λ a. f))
+    go (no e) f = visited-out (overrelax d mu) mu U (sitesOf d p) nu n (λ a m. e a) ∙ sym (off-set d mu p new U nu n (λ a b. e a))
 
 -- ## one job
 
@@ -71,7 +77,7 @@ module _ (q : Plan) (mu p : ℕ) (l : List Float) (opening : Opening q mu p l) w
       rw start (ran q mu p l facts (opening .fits) frames 0 (omega arith) misfit .ends ∙ rw (zero-add _))
 
 pub cuts-do-not-matter : CutsDoNotMatter
-cuts-do-not-matter q mu p l some others opening a b e = ends q mu p l opening some a ∙ (rw e) ∙ sym (ends q mu p l opening others b)
+cuts-do-not-matter q mu p l cut recut opening a b e = ends q mu p l opening cut a ∙ (rw e) ∙ sym (ends q mu p l opening recut b)
 
 -- how far a run has come: it is finished where that is half the sites
 come : (q : Plan) (mu p : ℕ) (l : List Float) (frames : List Frame) → ℕ
@@ -81,7 +87,7 @@ half-come : (q : Plan) (mu p : ℕ) (l : List Float) (frames : List Frame) → O
     → finishedCall (run (opened q mu p l) frames .job) .finished ≡ true → come q mu p l frames ≡ halfOf (q .extents)
 unfolding come
 half-come q mu p l frames opening misfit done =
-    eqb-true (come q mu p l frames) (halfOf (q .extents)) (sym (ap FinishedAnswer.finished (demand3 q mu p l frames opening misfit .0 .finished)) ∙ done)
+    eqb-true (come q mu p l frames) (halfOf (q .extents)) (sym (ap FinishedAnswer.finished (frames-are-visits q mu p l frames opening misfit .0 .finished)) ∙ done)
 
 all-sites : (q : Plan) (mu p : ℕ) → Accepted q mu p → firstSites (q .extents) p (halfOf (q .extents)) ≡ sitesOf (q .extents) p
 all-sites q mu p ok = take-all (halfOf (q .extents)) (sitesOf (q .extents) p) (omega (arith, count-sites (q .extents) (ok .shape) p (ok .two)))
@@ -115,10 +121,10 @@ none-stuck update U sites h n m = go (isStuck (update U n .stuck)) refl
     go false e = refl
 
 pub free-half : (d : List ℕ) (U : Field) (mu p : ℕ) → stuckLinks d mu U (sitesOf d p) ≡ 0 → Same d (halfSweepOf d U (mu, p)) (freeHalfSweep d U (mu, p))
-unfolding halfSweepOf freeHalfSweep visitedLink
+unfolding onSet visitedLink
 free-half d U mu p none nu n h g = go (Dec·and (ℕ-discrete nu mu) (ℕ-discrete (parityOf d n) p))
   where
     go : (c : Dec ((nu ≡ mu) × (parityOf d n ≡ p)))
-        → ite c (visitedLink (updateOf d U n mu) (U nu n)) (U nu n) ≡ ite c (updateOf d U n mu .link) (U nu n)
+        → ite c (visitedLink (updateOf d U n mu) (U mu n)) (U nu n) ≡ ite c (updateOf d U n mu .link) (U nu n)
     go (yes e) = rw (none-stuck (overrelax d mu) U (sitesOf d p) none n (inside-site d p n g (e .1)))
     go (no e) = refl

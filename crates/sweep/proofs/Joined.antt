@@ -22,9 +22,8 @@ use Rattle.gauge.specs.Update.{isStuck, updateOf}
 use Rattle.gauge.proofs.Lists.{Same, list-same, list-holds, links-of}
 use Rattle.gauge.proofs.UpdateLaws.{updated-nine, update-reads-no-other}
 use Rattle.sweep.specs.declared.Job.{Job}
-use Rattle.sweep.specs.Visits.{stuckAmong, overrelax, overrelaxedField, stuckLinks}
+use Rattle.sweep.specs.Visits.{stuckAmong, segment, overrelax, overrelaxedField, stuckLinks}
 use Rattle.sweep.specs.Jobs.{frameSites}
-use Rattle.sweep.specs.Advance.{segment}
 use Rattle.sweep.proofs.Visited.{Inside, visited-none, visited-nine, visited-join, stuck-append, stuck-few, stuck-join}
 
 -- ## sites that follow each other
@@ -37,17 +36,17 @@ pub record Pieces (d : List ℕ) (p : ℕ) (a b : List ℕ) : Type 0 where
 
 module _ (d : List ℕ) (p : ℕ) where
   -- a part of the sites has sites of the parity, each once
-  pub part-inside : (s t : ℕ) → Inside d p (take t (drop s (sitesOf d p)))
+  pub part-inside : (s t : ℕ) → Inside d p (segment d p s t)
   part-inside s t n m =
       let tail = subst (List·Mem n) (take-append-drop t (drop s (sitesOf d p))) (mem-append-left (drop t (drop s (sitesOf d p))) m) in
       site-inside d p n (subst (List·Mem n) (take-append-drop s (sitesOf d p)) (mem-append-right (take s (sitesOf d p)) tail))
 
-  part-once : (s t : ℕ) → List·Nodup (take t (drop s (sitesOf d p)))
+  part-once : (s t : ℕ) → List·Nodup (segment d p s t)
   part-once s t =
       let tail = nodup-append {l₁ = take s (sitesOf d p)} .0 (subst List·Nodup (sym (take-append-drop s (sitesOf d p))) (sites-once d p)) .1 in
-      nodup-append {l₁ = take t (drop s (sitesOf d p))} {l₂ = drop t (drop s (sitesOf d p))} .0 (subst List·Nodup (sym (take-append-drop t (drop s (sitesOf d p)))) tail) .0
+      nodup-append {l₁ = segment d p s t} {l₂ = drop t (drop s (sitesOf d p))} .0 (subst List·Nodup (sym (take-append-drop t (drop s (sitesOf d p)))) tail) .0
 
-  pub pieces : (s t : ℕ) (a b : List ℕ) → take t (drop s (sitesOf d p)) ≡ a ++ b → Pieces d p a b
+  pub pieces : (s t : ℕ) (a b : List ℕ) → segment d p s t ≡ a ++ b → Pieces d p a b
   pieces s t a b e = record {
     first = λ n m. part-inside s t n (subst (List·Mem n) (sym e) (mem-append-left b m));
     second = λ n m. part-inside s t n (subst (List·Mem n) (sym e) (mem-append-right a m));
@@ -55,18 +54,18 @@ module _ (d : List ℕ) (p : ℕ) where
   }
 
   module _ (shape : Shape d) (two : p < 2) where
-    pub length-part : (s t : ℕ) → length (take t (drop s (sitesOf d p))) ≡ min t (halfOf d - s)
+    pub length-part : (s t : ℕ) → length (segment d p s t) ≡ min t (halfOf d - s)
     length-part s t = length-take t (drop s (sitesOf d p)) ∙ ap (λ (x : ℕ). min t x) (length-drop s (sitesOf d p) ∙ ap (λ (x : ℕ). x - s) (count-sites d shape p two))
 
     -- one site more
-    pub part-next : (s t : ℕ) → s + t < halfOf d → take (suc t) (drop s (sitesOf d p)) ≡ take t (drop s (sitesOf d p)) ++ (nthOf d p (s + t) ∷ [])
+    pub part-next : (s t : ℕ) → s + t < halfOf d → segment d p s (suc t) ≡ segment d p s t ++ (nthOf d p (s + t) ∷ [])
     part-next s t h =
         let room : t < length (drop s (sitesOf d p)) = rw (length-drop s (sitesOf d p), count-sites d shape p two) (omega arith) in
         take-suc (drop s (sitesOf d p)) t 0 room
-        ∙ ap (λ (n : ℕ). take t (drop s (sitesOf d p)) ++ (n ∷ [])) (getD-drop s (sitesOf d p) t 0 ∙ site-at d shape p two (s + t) h)
+        ∙ ap (λ (n : ℕ). segment d p s t ++ (n ∷ [])) (getD-drop s (sitesOf d p) t 0 ∙ site-at d shape p two (s + t) h)
 
-    pub few-stuck : (mu : ℕ) (U : Field) (s t : ℕ) {r : ℕ} → r ≡ stuckLinks d mu U (take t (drop s (sitesOf d p))) → r ≤ t
-    few-stuck mu U s t e = omega (arith, e, stuck-few (overrelax d mu) U (take t (drop s (sitesOf d p))), length-part s t)
+    pub few-stuck : (mu : ℕ) (U : Field) (s t : ℕ) {r : ℕ} → r ≡ stuckLinks d mu U (segment d p s t) → r ≤ t
+    few-stuck mu U s t e = omega (arith, e, stuck-few (overrelax d mu) U (segment d p s t), length-part s t)
 
 -- ## visits of one piece, and then of the other
 
@@ -120,9 +119,9 @@ module _ (d : List ℕ) (mu : ℕ) (U : Field) (n : ℕ) where
   unfolding stuckAmong
   one-stuck e = ap length (if-pos (Bool-discrete (isStuck (updateOf d U n mu .stuck)) true) e (n ∷ []) [])
 
-  pub none-stuck : isStuck (updateOf d U n mu .stuck) ≡ false → stuckLinks d mu U (n ∷ []) ≡ 0
+  pub one-free : isStuck (updateOf d U n mu .stuck) ≡ false → stuckLinks d mu U (n ∷ []) ≡ 0
   unfolding stuckAmong
-  none-stuck e = ap length (if-neg (Bool-discrete (isStuck (updateOf d U n mu .stuck)) true) (λ h. true≢false (sym h ∙ e)) (n ∷ []) [])
+  one-free e = ap length (if-neg (Bool-discrete (isStuck (updateOf d U n mu .stuck)) true) (λ h. true≢false (sym h ∙ e)) (n ∷ []) [])
 
 -- ## a frame's sites
 

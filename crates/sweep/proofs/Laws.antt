@@ -45,7 +45,7 @@ module _ (j : Job) where
   pub good-job : InRange j → badJob j ≡ false
   unfolding badJob
   good-job ok =
-      let axis : j .direction ≤ 3 = omega (arith, ok .axis) in
+      let axis : j .direction ≤ 3 = omega (arith, ok .direction) in
       let parity : j .parity ≤ 1 = omega (arith, ok .parity) in
       rw (le-ltb _ _ (ok .visited), le-ltb _ _ (ok .stuck), le-ltb _ _ axis, le-ltb _ _ parity)
 
@@ -58,7 +58,7 @@ module _ (j : Job) where
       record {
         visited = ltb-false _ _ (c .0);
         stuck = ltb-false _ _ (c .1);
-        axis = omega (arith, ltb-false 3 (j .direction) (b .1));
+        direction = omega (arith, ltb-false 3 (j .direction) (b .1));
         parity = omega (arith, ltb-false 1 (j .parity) (a .1));
       }
 

@@ -2,7 +2,7 @@
 use Prim.Native.Nat.{ℕ, _+_, _<_, _≤_}
 use mathlib.Core.Bool.{Bool, true, false, Bool-discrete}
 use mathlib.Core.HLevel.{⊥-prop}
-use mathlib.Core.List.{List, [], _∷_, _++_, List·Mem, Disjoint, decMem, filter, filter-append, mem-append, mem-append-left, mem-append-right, mem-cons-self, mem-cons-of-mem, not-mem-nil}
+use mathlib.Core.List.{List, [], _∷_, _++_, List·Mem, Disjoint, decMem, filter-append, mem-append, mem-append-left, mem-append-right, mem-cons-self, mem-cons-of-mem, not-mem-nil}
 use mathlib.Core.Logic.{ite, Dec·and, if-pos, if-neg, Or·elim}
 use mathlib.Core.Path.{_≡_, refl, ap, sym, _∙_}
 use native.Mathlib.Decide.{ℕ-discrete}
@@ -16,7 +16,7 @@ use Rattle.gauge.specs.Staple.{SameOff}
 use Rattle.gauge.specs.Update.{isStuck}
 use Rattle.gauge.proofs.Lists.{Same}
 use Rattle.geometry.specs.Steps.{parityOf}
-use Rattle.sweep.specs.Visits.{visitedLink, visitedField, stuckAmong}
+use Rattle.sweep.specs.Visits.{visitedLink, visitedField, stuckSites, stuckAmong}
 
 -- ## what a field becomes
 
@@ -47,13 +47,9 @@ module _ (update : Field → ℕ → Updated) (mu : ℕ) where
 -- ## how many are stuck
 
 module _ (update : Field → ℕ → Updated) where
-  -- which of the sites have a stuck link
-  abbrev stuckOnes : Field → List ℕ → List ℕ
-  stuckOnes U sites = filter (λ n. Bool-discrete (isStuck (update U n .stuck)) true) sites
-
   pub stuck-append : (U : Field) (a b : List ℕ) → stuckAmong update U (a ++ b) ≡ stuckAmong update U a + stuckAmong update U b
   unfolding stuckAmong
-  stuck-append U a b = rw (filter-append (λ n. Bool-discrete (isStuck (update U n .stuck)) true) a b) (length-append (stuckOnes U a) (stuckOnes U b))
+  stuck-append U a b = rw (filter-append (λ n. Bool-discrete (isStuck (update U n .stuck)) true) a b) (length-append (stuckSites update U a) (stuckSites update U b))
 
   -- how many sites were visited bounds how many were stuck
   pub stuck-few : (U : Field) (sites : List ℕ) → stuckAmong update U sites ≤ length sites
@@ -61,8 +57,8 @@ module _ (update : Field → ℕ → Updated) where
   stuck-few U [] = omega arith
   stuck-few U (n ∷ ns) = go (Bool-discrete (isStuck (update U n .stuck)) true) (stuck-few U ns)
     where
-      go : (c : Dec (isStuck (update U n .stuck) ≡ true)) → length (stuckOnes U ns) ≤ length ns
-          → length (ite c (n ∷ stuckOnes U ns) (stuckOnes U ns)) ≤ length (n ∷ ns)
+      go : (c : Dec (isStuck (update U n .stuck) ≡ true)) → length (stuckSites update U ns) ≤ length ns
+          → length (ite c (n ∷ stuckSites update U ns) (stuckSites update U ns)) ≤ length (n ∷ ns)
       go (yes e) h = omega arith
       go (no e) h = omega arith
 
@@ -72,9 +68,9 @@ module _ (update : Field → ℕ → Updated) where
   stuck-same U W [] h = refl
   stuck-same U W (n ∷ ns) h = rw (h n mem-cons-self) (go (Bool-discrete (isStuck (update W n .stuck)) true) (stuck-same U W ns (λ m k. h m (mem-cons-of-mem n k))))
     where
-      go : (c : Dec (isStuck (update W n .stuck) ≡ true)) → length (stuckOnes U ns) ≡ length (stuckOnes W ns)
-          → length (ite c (n ∷ stuckOnes U ns) (stuckOnes U ns))
-          ≡ length (ite c (n ∷ stuckOnes W ns) (stuckOnes W ns))
+      go : (c : Dec (isStuck (update W n .stuck) ≡ true)) → length (stuckSites update U ns) ≡ length (stuckSites update W ns)
+          → length (ite c (n ∷ stuckSites update U ns) (stuckSites update U ns))
+          ≡ length (ite c (n ∷ stuckSites update W ns) (stuckSites update W ns))
       go (yes e) k = rw k
       go (no e) k = k
 

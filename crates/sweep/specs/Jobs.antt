@@ -1,38 +1,24 @@
--- The calls: a single update, opening a half-sweep, a frame of it, and whether it is finished. Each has its rows, and its answer.
+-- A half-sweep as a job: opening it, a frame of it, and whether it is finished. Each call has its rows and its answer.
 use Prim.Native.Nat.{ℕ, _+_, _-_, _^_, _<_, _≤_}
 use mathlib.Core.Bool.{Bool, false, _||_}
 use mathlib.Core.List.{List, [], _∷_}
 use mathlib.Core.Path.{_≡_}
 use lib.Dec.{eqb, ltb}
 use lib.Ieee.{Float}
-use lib.ListN.{length, take, drop}
-use Rattle.rows.specs.Rows.{firstRow, ifAccepted, finally}
-use Rattle.mat.specs.declared.Su3.{Su3}
-use Rattle.mat.specs.declared.MatrixAnswer.{MatrixAnswer}
-use Rattle.mat.specs.Answers.{matrixAnswer}
-use Rattle.geometry.specs.Order.{sitesOf, halfOf}
+use lib.ListN.{length}
+use Rattle.rows.specs.Rows.{firstRow, ifAccepted}
+use Rattle.geometry.specs.Order.{halfOf}
+use Rattle.links.specs.Field.{Field}
+use Rattle.gauge.specs.declared.Updated.{Updated}
 use Rattle.gauge.specs.Field.{linkOf, listOf}
-use Rattle.gauge.specs.Update.{isStuck, updateLinkOf, updateOf}
 use Rattle.lattice.specs.declared.Plan.{Plan}
 use Rattle.lattice.specs.Situations.{badExtents, badCoupling, badLinks, badDirection}
-use Rattle.lattice.specs.Rows.{Rows, linkRows}
+use Rattle.lattice.specs.Rows.{Rows}
 use Rattle.sweep.specs.declared.Job.{Job}
 use Rattle.sweep.specs.declared.Opened.{Opened}
 use Rattle.sweep.specs.declared.Framed.{Framed}
 use Rattle.sweep.specs.declared.FinishedAnswer.{FinishedAnswer}
-use Rattle.sweep.specs.Visits.{overrelaxedField, stuckLinks}
-
--- ## The single update: a stuck link is row 9, tried last
-
-unfoldable pub updateLinkCall : Su3 → Su3 → MatrixAnswer
-updateLinkCall u a =
-    let r = updateLinkOf u a in
-    matrixAnswer (firstRow ((isStuck (r .stuck), 9) ∷ [])) (r .link)
-
-unfoldable pub overrelaxLinkCall : Plan → ℕ → ℕ → List Float → MatrixAnswer
-overrelaxLinkCall q n mu l =
-    let r = updateOf (q .extents) (linkOf (q .extents) l) n mu in
-    matrixAnswer (finally (firstRow (linkRows (q .extents) (q .coupling) (length l) n mu)) (isStuck (r .stuck), 9)) (r .link)
+use Rattle.sweep.specs.Visits.{visitedField, stuckAmong, segment, overrelax}
 
 -- ## Rows 6, 7 and 8
 
@@ -52,8 +38,10 @@ badJob j = ltb (halfOf (j .extents)) (j .visited) || ltb (j .visited) (j .stuck)
 pub record InRange (j : Job) : Type 0 where
   pub visited : j .visited ≤ halfOf (j .extents)
   pub stuck : j .stuck ≤ j .visited
-  pub axis : j .direction < 4
+  pub direction : j .direction < 4
   pub parity : j .parity < 2
+
+-- ## Each call's rows
 
 abbrev pub openRows : Plan → ℕ → ℕ → Rows
 openRows q mu p = (badExtents (q .extents), 1) ∷ (badCoupling (q .coupling), 2) ∷ (badDirection mu, 5) ∷ (badParity p, 6) ∷ (badPass (q .pass), 7) ∷ []
@@ -72,7 +60,7 @@ newJob q mu p = record { extents = q .extents; direction = mu; parity = p; visit
 abbrev pub noJob : Job
 noJob = record { extents = 0 ∷ 0 ∷ 0 ∷ 0 ∷ []; direction = 0; parity = 0; visited = 0; stuck = 0; pass = 0 }
 
--- a plan some passes on
+-- a plan with its pass moved on by k
 abbrev pub passedPlan : Plan → ℕ → Plan
 passedPlan q k = record { extents = q .extents; coupling = q .coupling; seed = q .seed; pass = q .pass + k }
 
@@ -88,19 +76,28 @@ openCall q mu p = record {
 
 -- ## Frames
 
--- the sites that a frame visits: so many more of the job's parity, or all that are left
-unfoldable pub frameSites : Job → ℕ → List ℕ
-frameSites j size = take size (drop (j .visited) (sitesOf (j .extents) (j .parity)))
+-- the update that a job stands for
+abbrev pub updateBy : Job → Field → ℕ → Updated
+updateBy j = overrelax (j .extents) (j .direction)
 
-abbrev pub framedJob : Job → ℕ → List Float → Job
-framedJob j size l = record {
+-- a job with other counts, and all else as it was
+abbrev pub counted : Job → ℕ → ℕ → Job
+counted j visited stuck = record {
   extents = j .extents;
   direction = j .direction;
   parity = j .parity;
-  visited = j .visited + length (frameSites j size);
-  stuck = j .stuck + stuckLinks (j .extents) (j .direction) (linkOf (j .extents) l) (frameSites j size);
+  visited = visited;
+  stuck = stuck;
   pass = j .pass;
 }
+
+-- the sites that a frame visits
+unfoldable pub frameSites : Job → ℕ → List ℕ
+frameSites j size = segment (j .extents) (j .parity) (j .visited) size
+
+abbrev pub framedJob : Job → ℕ → List Float → Job
+framedJob j size l =
+    counted j (j .visited + length (frameSites j size)) (j .stuck + stuckAmong (updateBy j) (linkOf (j .extents) l) (frameSites j size))
 
 abbrev pub frameRow : Job → List Float → ℕ
 frameRow j l = firstRow (frameRows j (length l))
@@ -111,7 +108,7 @@ frameAnswer j size l = record { refusal = frameRow j l; job = ifAccepted (frameR
 -- the list that was lent, afterwards
 unfoldable pub frameLinks : Job → ℕ → List Float → List Float
 frameLinks j size l =
-    ifAccepted (frameRow j l) (listOf (j .extents) (overrelaxedField (j .extents) (j .direction) (linkOf (j .extents) l) (frameSites j size))) l
+    ifAccepted (frameRow j l) (listOf (j .extents) (visitedField (updateBy j) (j .direction) (linkOf (j .extents) l) (frameSites j size))) l
 
 pub record FrameCall (j : Job) (size : ℕ) (old : List Float) (r : Framed) (new : List Float) : Type 0 where
   pub answer : r ≡ frameAnswer j size old

@@ -1,4 +1,4 @@
--- Demand 3: a half-sweep in frames, as one claim about the whole list of its frame calls.
+-- A half-sweep in frames, as one claim about the whole list of its frame calls (the scope document's demand 3).
 use Prim.Native.Nat.{ℕ, _+_, _*_, _<_, min}
 use mathlib.Core.List.{List, [], _∷_, List·Mem}
 use mathlib.Core.Path.{_≡_}
@@ -10,12 +10,11 @@ use Rattle.geometry.specs.Radix.{volume}
 use Rattle.geometry.specs.Order.{sitesOf, halfOf}
 use Rattle.links.specs.Field.{Field}
 use Rattle.gauge.specs.Field.{linkOf}
-use Rattle.gauge.specs.Update.{updateOf}
 use Rattle.lattice.specs.declared.Plan.{Plan}
 use Rattle.sweep.specs.declared.Job.{Job}
 use Rattle.sweep.specs.declared.Framed.{Framed}
-use Rattle.sweep.specs.Visits.{visitedLink, stuckLinks}
-use Rattle.sweep.specs.Jobs.{openCall, frameAnswer, frameLinks, finishedCall}
+use Rattle.sweep.specs.Visits.{visitedLink, stuckAmong}
+use Rattle.sweep.specs.Jobs.{newJob, openCall, updateBy, counted, frameAnswer, frameLinks, finishedCall}
 
 -- ## A run
 
@@ -55,7 +54,7 @@ unfoldable pub acceptedSum : Between → List Frame → ℕ
 acceptedSum b [] = 0
 acceptedSum b (f ∷ fs) = ifAccepted (answerOf b f .refusal) (sizeOf f) 0 + acceptedSum (next b f) fs
 
--- every list that is not the field's has another length than it
+-- every other list has a wrong length
 unfoldable pub OthersMisfit : ℕ → List Frame → Type 0
 OthersMisfit long [] = Unit {0}
 OthersMisfit long (lent size ∷ fs) = OthersMisfit long fs
@@ -75,37 +74,35 @@ Answered b (other size l ∷ fs) =
 abbrev pub firstSites : List ℕ → ℕ → ℕ → List ℕ
 firstSites d p s = take s (sitesOf d p)
 
--- s sites of a half-sweep in direction μ and parity p, opened with pass k on the field U, have been visited
-pub record Swept (d : List ℕ) (U : Field) (mu p k s : ℕ) (b : Between) : Type 0 where
-  pub count : length (firstSites d p s) ≡ s
-  -- the link of each in direction μ is what the one-link update gives from U, or its old one if it is stuck there
-  pub updated : (n : ℕ) → List·Mem n (firstSites d p s) → linkOf d (b .links) mu n ≡ visitedLink (updateOf d U n mu) (U mu n)
+-- s sites of the half-sweep that was opened as the job j, on the field U, have been visited
+pub record Swept (j : Job) (U : Field) (s : ℕ) (b : Between) : Type 0 where
+  -- there are that many
+  pub count : length (firstSites (j .extents) (j .parity) s) ≡ s
+  -- the link of each in the job's direction is what the one-link update gives from U, or its old one if it is stuck there
+  pub updated : (n : ℕ) → List·Mem n (firstSites (j .extents) (j .parity) s)
+      → linkOf (j .extents) (b .links) (j .direction) n ≡ visitedLink (updateBy j U n) (U (j .direction) n)
   -- all other links are the old ones
-  pub kept : (nu n : ℕ) → nu < 4 → n < volume d → (nu ≡ mu → List·Mem n (firstSites d p s) → ⊥) → linkOf d (b .links) nu n ≡ U nu n
-  pub long : length (b .links) ≡ 72 * volume d
-  pub visited : b .job .visited ≡ s
-  -- the number of visited links that are stuck in U
-  pub stuck : b .job .stuck ≡ stuckLinks d mu U (firstSites d p s)
-  pub extents : b .job .extents ≡ d
-  pub direction : b .job .direction ≡ mu
-  pub parity : b .job .parity ≡ p
-  pub pass : b .job .pass ≡ k
-  -- finished exactly when s is half the sites
-  pub finished : finishedCall (b .job) ≡ record { refusal = 0; finished = eqb s (halfOf d) }
+  pub kept : (nu n : ℕ) → nu < 4 → n < volume (j .extents) → (nu ≡ j .direction → List·Mem n (firstSites (j .extents) (j .parity) s) → ⊥)
+      → linkOf (j .extents) (b .links) nu n ≡ U nu n
+  pub long : length (b .links) ≡ 72 * volume (j .extents)
+  -- the job says s visited, and how many of these links are stuck in U; all else stays as opened
+  pub job : b .job ≡ counted j s (stuckAmong (updateBy j) U (firstSites (j .extents) (j .parity) s))
+  -- it is finished exactly when s is half the sites
+  pub finished : finishedCall (b .job) ≡ record { refusal = 0; finished = eqb s (halfOf (j .extents)) }
 
 -- ## The claim
 
--- an accepted opening and a list that fits the plan's extents, whatever its contents; that there are four extents a plan's type says
+-- An accepted opening and a list that fits the plan's extents, whatever its contents. A plan's type says that there are four extents; the logic sees a list.
 pub record Opening (q : Plan) (mu p : ℕ) (l : List Float) : Type 0 where
   pub four : length (q .extents) ≡ 4
   pub accepted : openCall q mu p .refusal ≡ 0
   pub fits : length l ≡ 72 * volume (q .extents)
 
 -- s is the smaller of the accepted frames' sum and half the sites
-abbrev pub Demand3 : Type 0
-Demand3 =
+abbrev pub FramesAreVisits : Type 0
+FramesAreVisits =
     (q : Plan) (mu p : ℕ) (l : List Float) (frames : List Frame)
     → Opening q mu p l
     → OthersMisfit (72 * volume (q .extents)) frames
-    → Swept (q .extents) (linkOf (q .extents) l) mu p (q .pass) (min (acceptedSum (opened q mu p l) frames) (halfOf (q .extents))) (run (opened q mu p l) frames)
+    → Swept (newJob q mu p) (linkOf (q .extents) l) (min (acceptedSum (opened q mu p l) frames) (halfOf (q .extents))) (run (opened q mu p l) frames)
     × Answered (opened q mu p l) frames

@@ -1,5 +1,5 @@
--- What follows from demand 3: a finished job is a half-sweep, its cutting into frames does not matter, and eight finished jobs are a sweep.
-use Prim.Native.Nat.{ℕ, _*_}
+-- What follows from `FramesAreVisits`: a finished job is a half-sweep, its cutting into frames does not matter, and eight finished jobs are a sweep.
+use Prim.Native.Nat.{ℕ, _*_, min}
 use mathlib.Core.Bool.{true}
 use mathlib.Core.List.{List, [], _∷_, map}
 use mathlib.Core.Logic.{ite, Dec·and}
@@ -7,8 +7,10 @@ use mathlib.Core.Path.{_≡_}
 use native.Mathlib.Decide.{ℕ-discrete}
 use lib.Ieee.{Float}
 use lib.ListN.{length}
+use Rattle.mat.specs.declared.Su3.{Su3}
 use Rattle.geometry.specs.Radix.{volume}
 use Rattle.geometry.specs.Steps.{parityOf}
+use Rattle.geometry.specs.Order.{halfOf}
 use Rattle.links.specs.Field.{Field}
 use Rattle.gauge.specs.Field.{linkOf, listOf}
 use Rattle.gauge.specs.Update.{updateOf}
@@ -19,28 +21,34 @@ use Rattle.sweep.specs.RunOfFrames.{Frame, Between, opened, run, accepte
 
 -- ## Half-sweeps of a field
 
--- all links of direction μ at the sites of parity p updated from U at once, stuck ones kept
-unfoldable pub halfSweepOf : List ℕ → Field → ℕ × ℕ → Field
-halfSweepOf d U half nu n =
-    ite (Dec·and (ℕ-discrete nu (half .0)) (ℕ-discrete (parityOf d n) (half .1))) (visitedLink (updateOf d U n (half .0)) (U nu n)) (U nu n)
+-- the links of a direction at the sites of a parity: one of the eight sets of links
+abbrev pub LinkSet : Type 0
+LinkSet = ℕ × ℕ
 
--- the same with each link as the update gives it: `half_sweep_overrelax`, where no link is stuck
-unfoldable pub freeHalfSweep : List ℕ → Field → ℕ × ℕ → Field
-freeHalfSweep d U half nu n =
-    ite (Dec·and (ℕ-discrete nu (half .0)) (ℕ-discrete (parityOf d n) (half .1))) (updateOf d U n (half .0) .link) (U nu n)
+-- the field with other matrices for a set's links, by their sites
+unfoldable pub onSet : List ℕ → LinkSet → (ℕ → Su3) → Field → Field
+onSet d set new U nu n = ite (Dec·and (ℕ-discrete nu (set .0)) (ℕ-discrete (parityOf d n) (set .1))) (new n) (U nu n)
 
--- some after each other
-unfoldable pub halfSweeps : (Field → ℕ × ℕ → Field) → Field → List (ℕ × ℕ) → Field
-halfSweeps sweep U [] = U
-halfSweeps sweep U (half ∷ halves) = halfSweeps sweep (sweep U half) halves
+-- all of the set's links updated from U at once, stuck ones kept
+abbrev pub halfSweepOf : List ℕ → Field → LinkSet → Field
+halfSweepOf d U set = onSet d set (λ n. visitedLink (updateOf d U n (set .0)) (U (set .0) n)) U
+
+-- each of them as the update gives it: `half_sweep_overrelax`, where no link is stuck (a stuck one would be zeros here)
+abbrev pub freeHalfSweep : List ℕ → Field → LinkSet → Field
+freeHalfSweep d U set = onSet d set (λ n. updateOf d U n (set .0) .link) U
+
+-- several half-sweeps, one after another
+unfoldable pub inTurn : (Field → LinkSet → Field) → Field → List LinkSet → Field
+inTurn sweep U [] = U
+inTurn sweep U (set ∷ sets) = inTurn sweep (sweep U set) sets
 
 -- in order of direction, then parity
-abbrev pub eight : List (ℕ × ℕ)
+abbrev pub eight : List LinkSet
 eight = (0, 0) ∷ (0, 1) ∷ (1, 0) ∷ (1, 1) ∷ (2, 0) ∷ (2, 1) ∷ (3, 0) ∷ (3, 1) ∷ []
 
 -- `overrelax_sweep`, where no link is stuck
 abbrev pub sweepOf : List ℕ → Field → Field
-sweepOf d U = halfSweeps (freeHalfSweep d) U eight
+sweepOf d U = inTurn (freeHalfSweep d) U eight
 
 -- ## One job
 
@@ -52,21 +60,21 @@ FinishedIsHalfSweep =
     → finishedCall (run (opened q mu p l) frames .job) .finished ≡ true
     → run (opened q mu p l) frames .links ≡ listOf (q .extents) (halfSweepOf (q .extents) (linkOf (q .extents) l) (mu, p))
 
--- two lists of frames with the same accepted sum end alike, in links and job
+-- two lists of frames with the same accepted sum, or with sums that both reach half the sites, end alike in links and job
 abbrev pub CutsDoNotMatter : Type 0
 CutsDoNotMatter =
-    (q : Plan) (mu p : ℕ) (l : List Float) (some others : List Frame)
+    (q : Plan) (mu p : ℕ) (l : List Float) (cut recut : List Frame)
     → Opening q mu p l
-    → OthersMisfit (72 * volume (q .extents)) some
-    → OthersMisfit (72 * volume (q .extents)) others
-    → acceptedSum (opened q mu p l) some ≡ acceptedSum (opened q mu p l) others
-    → run (opened q mu p l) some ≡ run (opened q mu p l) others
+    → OthersMisfit (72 * volume (q .extents)) cut
+    → OthersMisfit (72 * volume (q .extents)) recut
+    → min (acceptedSum (opened q mu p l) cut) (halfOf (q .extents)) ≡ min (acceptedSum (opened q mu p l) recut) (halfOf (q .extents))
+    → run (opened q mu p l) cut ≡ run (opened q mu p l) recut
 
 -- ## Jobs one after another
 
--- a half-sweep's direction and parity, and its frame calls
-pub record Half : Type 0 where
-  pub which : ℕ × ℕ
+-- a half-sweep's set of links, and its frame calls
+pub record HalfSweep : Type 0 where
+  pub set : LinkSet
   pub frames : List Frame
 
 -- a plan, and the links of its field
@@ -74,30 +82,30 @@ pub record State : Type 0 where
   pub plan : Plan
   pub links : List Float
 
-abbrev pub openedHalf : State → Half → Between
-openedHalf s h = opened (s .plan) (h .which .0) (h .which .1) (s .links)
+abbrev pub openedOn : State → HalfSweep → Between
+openedOn s h = opened (s .plan) (h .set .0) (h .set .1) (s .links)
 
 -- each is opened with the plan that the last opening handed back
-abbrev pub afterHalf : State → Half → State
-afterHalf s h = record { plan = openCall (s .plan) (h .which .0) (h .which .1) .plan; links = run (openedHalf s h) (h .frames) .links }
+abbrev pub afterHalf : State → HalfSweep → State
+afterHalf s h = record { plan = openCall (s .plan) (h .set .0) (h .set .1) .plan; links = run (openedOn s h) (h .frames) .links }
 
-unfoldable pub runAll : State → List Half → State
+unfoldable pub runAll : State → List HalfSweep → State
 runAll s [] = s
 runAll s (h ∷ hs) = runAll (afterHalf s h) hs
 
--- each is accepted, and says finished at its end
-unfoldable pub AllFinished : State → List Half → Type 0
+-- each opening is accepted, lists that are not the field's have wrong lengths, and each job says finished at its end
+unfoldable pub AllFinished : State → List HalfSweep → Type 0
 AllFinished s [] = Unit {0}
 AllFinished s (h ∷ hs) =
-    (openCall (s .plan) (h .which .0) (h .which .1) .refusal ≡ 0)
+    (openCall (s .plan) (h .set .0) (h .set .1) .refusal ≡ 0)
     × OthersMisfit (72 * volume (s .plan .extents)) (h .frames)
-    × (finishedCall (run (openedHalf s h) (h .frames) .job) .finished ≡ true)
+    × (finishedCall (run (openedOn s h) (h .frames) .job) .finished ≡ true)
     × AllFinished (afterHalf s h) hs
 
 -- and each says at its end that no link was stuck
-unfoldable pub NoneStuck : State → List Half → Type 0
+unfoldable pub NoneStuck : State → List HalfSweep → Type 0
 NoneStuck s [] = Unit {0}
-NoneStuck s (h ∷ hs) = (run (openedHalf s h) (h .frames) .job .stuck ≡ 0) × NoneStuck (afterHalf s h) hs
+NoneStuck s (h ∷ hs) = (run (openedOn s h) (h .frames) .job .stuck ≡ 0) × NoneStuck (afterHalf s h) hs
 
 -- a plan of four extents, and a list that fits them
 pub record Fits (s : State) : Type 0 where
@@ -106,13 +114,13 @@ pub record Fits (s : State) : Type 0 where
 
 abbrev pub JobsAreHalfSweeps : Type 0
 JobsAreHalfSweeps =
-    (s : State) (hs : List Half) → Fits s → AllFinished s hs
+    (s : State) (hs : List HalfSweep) → Fits s → AllFinished s hs
     → runAll s hs ≡ record {
       plan = passedPlan (s .plan) (length hs);
-      links = listOf (s .plan .extents) (halfSweeps (halfSweepOf (s .plan .extents)) (linkOf (s .plan .extents) (s .links)) (map Half.which hs));
+      links = listOf (s .plan .extents) (inTurn (halfSweepOf (s .plan .extents)) (linkOf (s .plan .extents) (s .links)) (map HalfSweep.set hs));
     }
 
 abbrev pub EightJobsAreSweep : Type 0
 EightJobsAreSweep =
-    (s : State) (hs : List Half) → map Half.which hs ≡ eight → Fits s → AllFinished s hs → NoneStuck s hs
+    (s : State) (hs : List HalfSweep) → map HalfSweep.set hs ≡ eight → Fits s → AllFinished s hs → NoneStuck s hs
     → runAll s hs .links ≡ listOf (s .plan .extents) (sweepOf (s .plan .extents) (linkOf (s .plan .extents) (s .links)))

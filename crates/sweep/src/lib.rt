@@ -12,8 +12,8 @@ pub use opening::open_overrelax;
 pub use single::overrelax_link;
 pub use single::update_link;
 
-// A half-sweep under way: of the links of one direction at the sites of one parity, the first
-// visited have been updated or, stuck, kept.
+// A half-sweep under way: the links of one direction at the first `visited` sites of one parity have
+// been updated or, where stuck, kept.
 pub struct Job {
     pub extents: [usize; 4],
     pub direction: usize,

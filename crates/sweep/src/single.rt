@@ -7,7 +7,7 @@ ghost use mathlib.Core.List.{[], _∷_};
 ghost use Rattle.rows.specs.Rows.{firstRow};
 ghost use Rattle.mat.specs.Answers.{matrixAnswer};
 ghost use Rattle.gauge.specs.Update.{isStuck};
-ghost use Rattle.sweep.specs.Jobs.{updateLinkCall, overrelaxLinkCall};
+ghost use Rattle.sweep.specs.Single.{updateLinkCall, overrelaxLinkCall};
 
 // An update as an answer: row 9 where the link is stuck.
 fn judged_update(r: Updated) -> MatrixAnswer

@@ -9,9 +9,8 @@ use Rattle.geometry.specs.Order.{halfOf}
 use Rattle.geometry.proofs.Shape.{volume-high}
 use Rattle.geometry.proofs.Order.{halves, nth-below}
 use Rattle.gauge.specs.Field.{linkOf, listOf}
-use Rattle.sweep.specs.Visits.{stuckAmong, overrelaxedField, stuckLinks}
-use Rattle.sweep.specs.Advance.{segment}
-use Rattle.sweep.proofs.Joined.{visits-none, visits-next, count-next, one-stuck, none-stuck}
+use Rattle.sweep.specs.Visits.{stuckAmong, segment, overrelaxedField, stuckLinks}
+use Rattle.sweep.proofs.Joined.{visits-none, visits-next, count-next, one-stuck, one-free}
 use Rattle.sweep.proofs.frames.advance.Statement.{statement}
 use Rattle.sweep.proofs.frames.advance.Tie as tie
 
@@ -45,7 +44,7 @@ add-nth c =
     omega (arith, room (c .before))
 
 nth-requires : tie.Need-nth-requires Inv-loop μ-loop
-nth-requires c κs = let run = c .before .before .before .before .pre in (run .holds .shape, run .two, room (c .before))
+nth-requires c κs = let run = c .before .before .before .before .pre in (run .holds .shape, omega (arith, run .parity), room (c .before))
 
 visit-requires : tie.Need-visit-requires Inv-loop μ-loop
 visit-requires c κs =
@@ -53,7 +52,7 @@ visit-requires c κs =
     record {
       holds = record { shape = run .holds .shape; long = c .before .before .before .loop .inv .3 ∙ run .holds .long };
       below = rw (c .nth .ensures) (nth-below _ (run .holds .shape) _ _ (room (c .before .before)));
-      axis = run .axis;
+      axis = run .direction;
     }
 
 add-stuck : tie.Need-add-stuck Inv-loop μ-loop
@@ -81,7 +80,7 @@ counted : (c : tie.Joined1 Inv-loop μ-loop)
 counted c =
     ⊎-elim
     (λ w. let s = one-stuck _ _ _ _ (sym (c .before .before .before .visit .ensures .stuck) ∙ w .0 .taken) in (rw s (w .1), omega (arith, w .1)))
-    (λ w. let s = none-stuck _ _ _ _ (sym (c .before .before .before .visit .ensures .stuck) ∙ w .0 .left) in (rw s (w .1 ∙ sym (add-zero _)), omega (arith, w .1)))
+    (λ w. let s = one-free _ _ _ _ (sym (c .before .before .before .visit .ensures .stuck) ∙ w .0 .left) in (rw s (w .1 ∙ sym (add-zero _)), omega (arith, w .1)))
     (c .if1 .came)
 
 loop-again : tie.Need-loop-again Inv-loop μ-loop
@@ -92,8 +91,8 @@ loop-again c =
     let site = c .before .before .before .before .nth .ensures in
     let visit = c .before .before .before .visit in (
       omega (arith, goes-on turn),
-      visit .ensures .links ∙ visits-next _ (run .holds .shape) _ _ (run .axis) (run .two) _ _ _ _ _ (room turn) site (inv .1),
-      carry _ _ _ _ _ (counted c .0) (inv .2) (count-next _ (run .holds .shape) _ _ (run .axis) (run .two) _ _ _ _ _ (room turn) site (inv .1)),
+      visit .ensures .links ∙ visits-next _ (run .holds .shape) _ _ (run .direction) (run .parity) _ _ _ _ _ (room turn) site (inv .1),
+      carry _ _ _ _ _ (counted c .0) (inv .2) (count-next _ (run .holds .shape) _ _ (run .direction) (run .parity) _ _ _ _ _ (room turn) site (inv .1)),
       visit .kept .0 ∙ inv .3,
       omega (arith, counted c .1, inv .4),
     )
@@ -105,7 +104,7 @@ returns : tie.Need-returns Inv-loop μ-loop
 returns c =
     let e : c .before .loop .k ≡ c .before .before .before .args .count = omega arith in
     let inv = c .before .loop .inv in
-    record { stuck = rw e at (inv .2); links = rw e at (inv .1) }
+    record { stuck = rw e at (inv .2); links = rw e at (inv .1); few = rw e at (inv .4) }
 
 pub advance-spec : {M : Type 1} → statement M
 advance-spec = tie.close (tie.spec Inv-loop μ-loop loop-holds add-nth nth-requires visit-requires add-stuck add-k loop-less loop-again same-length returns)

@@ -7,10 +7,9 @@ use Rattle.geometry.specs.Shape.{Shape}
 use Rattle.geometry.specs.Order.{halfOf}
 use Rattle.geometry.proofs.Shape.{volume-high}
 use Rattle.geometry.proofs.Order.{halves}
-use Rattle.gauge.specs.Field.{linkOf}
 use Rattle.sweep.specs.Jobs.{InRange}
 use Rattle.sweep.proofs.Laws.{frame-refused, frame-accepted}
-use Rattle.sweep.proofs.Joined.{few-stuck, frame-segment, frame-count}
+use Rattle.sweep.proofs.Joined.{frame-segment, frame-count}
 use borrow.Author.Needs.{needs}
 use Rattle.sweep.proofs.frames.frame_overrelax.Statement.{statement}
 use Rattle.sweep.proofs.frames.frame_overrelax.Tie as tie
@@ -37,8 +36,8 @@ advance-requires c κs =
     let ok = judged (c .before .before .before .before .before) in
     record {
       holds = record { shape = ok .0; long = ok .1 };
-      axis = ok .2 .axis;
-      two = ok .2 .parity;
+      direction = ok .2 .direction;
+      parity = ok .2 .parity;
       room = omega (arith, least c, ok .2 .visited);
     }
 
@@ -48,8 +47,7 @@ add-t12 c =
     let count = least (c .before .before .before .before .before) in
     let high = volume-high _ (ok .0) in
     let half = halves _ (ok .0) in
-    let job = c .before .before .before .before .before .before .before .before .before .before .before .before .before .args .job in
-    let few = few-stuck (job .extents) (job .parity) (ok .0) (ok .2 .parity) (job .direction) (linkOf (job .extents) (c .before .before .before .before .before .before .before .before .before .before .before .before .before .args .links .now)) (job .visited) (c .before .before .before .before .before .before .lesser .result) (c .before .before .before .before .advance .ensures .stuck) in
+    let few = c .before .before .before .before .advance .ensures .few in
     omega (arith, count, few, ok .2 .stuck, ok .2 .visited)
 
 returns-2 : tie.Need-returns-2

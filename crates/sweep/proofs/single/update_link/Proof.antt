@@ -1,5 +1,5 @@
 use mathlib.Core.Path.{_∙_}
-use Rattle.sweep.specs.Jobs.{updateLinkCall}
+use Rattle.sweep.specs.Single.{updateLinkCall}
 use borrow.Author.Needs.{needs}
 use Rattle.sweep.proofs.single.update_link.Statement.{statement}
 use Rattle.sweep.proofs.single.update_link.Tie as tie

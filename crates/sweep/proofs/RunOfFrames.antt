@@ -1,4 +1,4 @@
--- The proof of demand 3: after frames that add up to s, job and links are those of s visits.
+-- The proof of specs/RunOfFrames.antt: after frames that add up to s, job and links are those of s visits.
 use Prim.Native.Nat.{ℕ, _+_, _*_, _-_, _<_, _≤_, min}
 use mathlib.Core.List.{List, [], _∷_, _++_}
 use mathlib.Core.Path.{_≡_, refl, ap, sym, _∙_}
@@ -6,7 +6,7 @@ use native.Mathlib.Decide.{decLt}
 use native.Mathlib.Nat.{zero-add}
 use native.Mathlib.Omega.{arith}
 use lib.Ieee.{Float}
-use lib.ListN.{length, take, drop}
+use lib.ListN.{length}
 use lib.Seq.{take-add, take-all}
 use Rattle.rows.specs.Rows.{firstRow, ifAccepted}
 use Rattle.rows.proofs.Laws.{no-row, row-holds, row-passes}
@@ -17,9 +17,9 @@ use Rattle.gauge.specs.Field.{linkOf, listOf}
 use Rattle.gauge.proofs.Lists.{Same, length-list, links-of}
 use Rattle.lattice.specs.declared.Plan.{Plan}
 use Rattle.lattice.proofs.Laws.{bad-links, good-links}
-use Rattle.sweep.specs.Visits.{stuckAmong, overrelax, overrelaxedField, stuckLinks}
-use Rattle.sweep.specs.Jobs.{InRange, newJob, openCall, openRow, frameRow, frameSites, frameAnswer, frameLinks, finishedRows, finishedCall}
-use Rattle.sweep.specs.RunOfFrames.{Frame, Between, opened, answerOf, next, run, acceptedSum, OthersMisfit, Answered, firstSites, Swept, Demand3}
+use Rattle.sweep.specs.Visits.{stuckAmong, segment, overrelax, overrelaxedField, stuckLinks}
+use Rattle.sweep.specs.Jobs.{InRange, newJob, counted, openCall, openRow, frameRow, frameSites, frameAnswer, frameLinks, finishedRows, finishedCall}
+use Rattle.sweep.specs.RunOfFrames.{Frame, Between, opened, answerOf, next, run, acceptedSum, OthersMisfit, Answered, firstSites, Swept, FramesAreVisits}
 use Rattle.sweep.proofs.Laws.{good-job, Accepted, accepted-opening}
 use Rattle.sweep.proofs.Visited.{visited-in, visited-out}
 use Rattle.sweep.proofs.Joined.{Pieces, part-inside, pieces, length-part, few-stuck, field-nine, visits-join, count-join, visits-none}
@@ -32,14 +32,7 @@ module _ (q : Plan) (mu p : ℕ) (l₀ : List Float) (ok : Accepted q mu p) (lon
 
   abbrev pub stateAt : ℕ → Between
   stateAt s = record {
-    job = record {
-      extents = q .extents;
-      direction = mu;
-      parity = p;
-      visited = s;
-      stuck = stuckLinks (q .extents) mu (linkOf (q .extents) l₀) (firstSites (q .extents) p s);
-      pass = q .pass;
-    };
+    job = counted (newJob q mu p) s (stuckLinks (q .extents) mu (linkOf (q .extents) l₀) (firstSites (q .extents) p s));
     links = linksAfter s;
   }
 
@@ -50,7 +43,7 @@ module _ (q : Plan) (mu p : ℕ) (l₀ : List Float) (ok : Accepted q mu p) (lon
   in-range s h = record {
     visited = h;
     stuck = few-stuck (q .extents) p (ok .shape) (ok .two) mu (linkOf (q .extents) l₀) 0 s refl;
-    axis = ok .axis;
+    direction = ok .axis;
     parity = ok .two;
   }
 
@@ -72,7 +65,7 @@ module _ (q : Plan) (mu p : ℕ) (l₀ : List Float) (ok : Accepted q mu p) (lon
   -- ## a call takes one state to another
 
   abbrev more : ℕ → ℕ → List ℕ
-  more s n = take n (drop s (sitesOf (q .extents) p))
+  more s n = segment (q .extents) p s n
 
   all-left : (s n : ℕ) → firstSites (q .extents) p s ++ more s n ≡ firstSites (q .extents) p (min (s + n) (halfOf (q .extents)))
   all-left s n = sym (take-add s n (sitesOf (q .extents) p)) ∙ go (decLt (halfOf (q .extents)) (s + n))
@@ -144,18 +137,13 @@ module _ (q : Plan) (mu p : ℕ) (l₀ : List Float) (ok : Accepted q mu p) (lon
   holds : (s : ℕ) → Same (q .extents) (linkOf (q .extents) (linksAfter s)) (overrelaxedField (q .extents) mu (linkOf (q .extents) l₀) (firstSites (q .extents) p s))
   holds s = links-of (q .extents) _ (field-nine (q .extents) mu l₀ (firstSites (q .extents) p s))
 
-  swept-at : (s : ℕ) → s ≤ halfOf (q .extents) → Swept (q .extents) (linkOf (q .extents) l₀) mu p (q .pass) s (stateAt s)
+  swept-at : (s : ℕ) → s ≤ halfOf (q .extents) → Swept (newJob q mu p) (linkOf (q .extents) l₀) s (stateAt s)
   swept-at s h = record {
     count = first-count s h;
     updated = λ n m. holds s mu n (ok .axis) (part-inside (q .extents) p 0 s n m .0) ∙ visited-in (overrelax (q .extents) mu) mu (linkOf (q .extents) l₀) (firstSites (q .extents) p s) mu n refl m;
     kept = λ nu n a b out. holds s nu n a b ∙ visited-out (overrelax (q .extents) mu) mu (linkOf (q .extents) l₀) (firstSites (q .extents) p s) nu n out;
     long = length-list (q .extents) _;
-    visited = refl;
-    stuck = refl;
-    extents = refl;
-    direction = refl;
-    parity = refl;
-    pass = refl;
+    job = refl;
     finished = unfold finishedCall ifAccepted in rw (asked s h);
   }
 
@@ -167,8 +155,8 @@ unfolding openCall ifAccepted stuckAmong
 opened-state q mu p l ok long e =
     rw e (ap (λ (x : List Float). record { job = newJob q mu p; links = x }) (visits-none (q .extents) mu l long))
 
-pub demand3 : Demand3
-demand3 q mu p l frames opening misfit =
+pub frames-are-visits : FramesAreVisits
+frames-are-visits q mu p l frames opening misfit =
     let row : openRow q mu p ≡ 0 = unfold openCall in opening .accepted in
     let ok = accepted-opening q mu p (opening .four) row in
     let start = opened-state q mu p l ok (opening .fits) row in
