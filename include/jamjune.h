@@ -184,17 +184,18 @@ uint32_t jj_link_check(const size_t ext[4], const double *links, size_t n, uint3
 
 /* ---- overrelaxation: n is the length of links
  *
- * The update of a link u whose staples' sum is a: w = u a; then, for the subgroups 0, 1, 2 in turn, v is the projection of
- * w's block, h the conjugate of v / |v|, and the subgroup's rows of u and of w are left-multiplied by h h; at last u is
- * projected as by jj_su3_reunitarize. The link is stuck where a |v| is below 1e-12, or where the update has a number that
- * is not finite.
+ * The update of a link u whose staples' sum is a: w = u a; then, for the subgroups 0, 1, 2 in turn, v is the projection
+ * of w's block, h the conjugate of v / |v|, and the subgroup's rows of u and of w are left-multiplied by h h; at last u
+ * is projected as by jj_su3_reunitarize. The link is stuck where a |v| is below 1e-12, or where the update has a number
+ * that is not finite.
  *
  * A half-sweep updates the links of one direction at the sites of one parity. A job is a half-sweep under way, as nine
- * numbers: extents t, x, y, z, direction, parity, visited, stuck, pass. Of the parity's sites in ascending order the first
- * visited are done, and stuck of their links were stuck. A frame visits so many more of them, or all that are left. Hand
- * each frame the job that the last call handed back, and the same links, with nothing else written to them between opening
- * and the last frame: no call can tell otherwise. Then it does not matter how a half-sweep is cut into frames: each of its
- * links becomes its update from the field at opening, or keeps its bits if it is stuck there; all other links keep theirs. */
+ * numbers: extents t, x, y, z, direction, parity, visited, stuck, pass. Of the parity's sites in ascending order the
+ * first visited are done, and stuck of their links were stuck. A frame visits so many more of them, or all that are
+ * left. Hand each frame the job that the last call handed back, and the same links, with nothing else written to them
+ * between opening and the last frame: no call can tell otherwise. Then it does not matter how a half-sweep is cut into
+ * frames: each of its links becomes its update from the field at opening, or keeps its bits if it is stuck there; all
+ * other links keep theirs. */
 
 /* out = the update of the link u, where staple is its staples' sum. Row 9. */
 uint32_t jj_update_link(const double u[18], const double staple[18], double out[18]);
@@ -208,9 +209,9 @@ uint32_t jj_overrelax_link(const size_t ext[4], double coupling, size_t site, si
  * seed may be anything, and leaves nothing in the job. Rows 1, 2, 5, 6, 7. */
 uint32_t jj_open_overrelax(const size_t ext[4], double coupling, uint64_t seed, uint64_t pass[1], size_t direction, size_t parity, uint64_t out_job[9]);
 
-/* A frame: visits size more sites of the job's parity in ascending order, or all that are left; any size will do. The link
- * of the job's direction at each is updated where it stands; a stuck link is kept and counted. job = the same with visited
- * and stuck moved on. Refused, job and links are as they were. Rows 1, 3, 8. */
+/* A frame: visits size more sites of the job's parity in ascending order, or all that are left; any size will do. The
+ * link of the job's direction at each is updated where it stands; a stuck link is kept and counted. job = the same with
+ * visited and stuck moved on. Refused, job and links are as they were. Rows 1, 3, 8. */
 uint32_t jj_frame_overrelax(uint64_t job[9], size_t size, double *links, size_t n);
 
 /* out = 1 where the job has visited all sites of its parity, half of all; else 0. Rows 1, 8. */

@@ -19,11 +19,10 @@ use Rattle.gauge.specs.Sound.{soundLink, unsoundLinks}
 use Rattle.gauge.proofs.Unsound.{failing-few}
 use Rattle.lattice.specs.Situations.{badExtents}
 use Rattle.lattice.specs.Rows.{checkRows}
-use Rattle.lattice.specs.declared.Plan.{Plan}
 use Rattle.sweep.specs.declared.Job.{Job}
 use Rattle.sweep.specs.declared.Opened.{Opened}
 use Rattle.sweep.specs.declared.Framed.{Framed}
-use Rattle.sweep.specs.Jobs.{openCall, openRow, newJob, noJob, frameAnswer, frameRow, framedJob, FrameCall}
+use Rattle.sweep.specs.Jobs.{FrameCall}
 use Rattle.export.specs.Face.{CountGiven, NumberGiven}
 use Rattle.export.specs.Jobs.{jobIn, jobNumbers, OpenGiven, FrameGiven}
 
@@ -68,34 +67,3 @@ module _ {old : List ℕ} {size : ℕ} {l m : List Float} {j : Job} {a : Framed}
 pub flag : (b : Bool) → boolByte b ≡ cond b 1 0
 flag true = refl
 flag false = refl
-
--- ## The array that a call leaves is the job that it answers, for the next call to read
-
-job-read : (d : List ℕ) (mu p v s k : ℕ) → length d ≡ 4
-    → jobIn (jobNumbers (record { extents = d; direction = mu; parity = p; visited = v; stuck = s; pass = k })) ≡ record { extents = d; direction = mu; parity = p; visited = v; stuck = s; pass = k }
-unfolding jobIn jobNumbers
-job-read [] mu p v s k h = absurd (omega (arith, h))
-job-read (a ∷ []) mu p v s k h = absurd (omega (arith, h))
-job-read (a ∷ b ∷ []) mu p v s k h = absurd (omega (arith, h))
-job-read (a ∷ b ∷ c ∷ []) mu p v s k h = absurd (omega (arith, h))
-job-read (a ∷ b ∷ c ∷ d ∷ []) mu p v s k h = refl
-job-read (a ∷ b ∷ c ∷ d ∷ e ∷ ds) mu p v s k h = absurd (omega (arith, h))
-
-if-framed : (row : ℕ) (j : Job) (old : List ℕ) → jobIn (jobNumbers j) ≡ j → jobIn (ifAccepted row (jobNumbers (ifAccepted row j (jobIn old))) old) ≡ ifAccepted row j (jobIn old)
-unfolding ifAccepted
-if-framed zero j old h = h
-if-framed (suc r) j old h = refl
-
-pub frame-read : {old new : List ℕ} {size r : ℕ} {l m : List Float} → FrameGiven old size l r new m → jobIn new ≡ frameAnswer (jobIn old) size l .job
-unfolding frameAnswer jobIn
-frame-read {old = old} {size = size} {l = l} h =
-    ap jobIn (h .job) ∙ if-framed (frameRow (jobIn old) l) (framedJob (jobIn old) size l) old (job-read _ _ _ _ _ _ refl)
-
-if-opened : (row : ℕ) (j : Job) → jobIn (jobNumbers j) ≡ j → jobIn (jobNumbers (ifAccepted row j noJob)) ≡ ifAccepted row j noJob
-unfolding ifAccepted
-if-opened zero j h = h
-if-opened (suc r) j h = job-read _ _ _ _ _ _ refl
-
-pub open-read : {old pass job : List ℕ} {r : ℕ} (q : Plan) (mu p : ℕ) → length (q .extents) ≡ 4 → OpenGiven (openCall q mu p) old r pass job → jobIn job ≡ openCall q mu p .job
-unfolding openCall
-open-read q mu p four h = ap jobIn (h .answer .array) ∙ if-opened (openRow q mu p) (newJob q mu p) (job-read _ _ _ _ _ _ four)
