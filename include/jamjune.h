@@ -2,7 +2,8 @@
  *
  * Arrays and lists. An array points to as many elements as its brackets say. A list is a pointer and a length in
  * elements; the pointer must not be null and must be aligned, even where the length is 0. What is written (arrays named
- * out and out_*, a generator's state, lists without const) must overlap no other argument. Nothing is kept between calls.
+ * out and out_*, a generator's state, a pass, a job that is not const, lists without const) must overlap no other
+ * argument. Nothing is kept between calls.
  *
  * A matrix is 18 doubles: nine complex numbers row by row, each real part first. A 2x2 block is 8 doubles likewise. A
  * complex number is 2 doubles. A quaternion a0 + i(a1 s1 + a2 s2 + a3 s3), with Pauli's matrices s, is the doubles a0 to
@@ -13,14 +14,19 @@
  * of 72 doubles per site: the link of direction mu at a site is the matrix that begins at 18 (mu * sites + site).
  *
  * Refusals. A call that returns uint32_t and can refuse returns the number of the first row below that holds among those
- * named at the call, and 0 where none does. Rows are tried in the order of their numbers, but 10 last. Each output array
- * is written in every case: refused, its numbers are 0 or +0. A refused call leaves every list as it was.
+ * named at the call, and 0 where none does. Rows are tried in the order of their numbers, but 9 and then 10 last. Each
+ * array named out or out_* is written in every case: refused, its numbers are 0 or +0. A refused call leaves every list,
+ * pass and job as it was.
  *
  *    1   an extent is odd, below 2 or above 16
  *    2   the coupling is not finite, below 0 or above 100 (-0 passes)
  *    3   the list of links has not 72 numbers per site
  *    4   a site is not below the number of sites, or a coordinate not below its extent
  *    5   a direction is above 3, a plane's two directions are equal, or a subgroup is above 2
+ *    6   a parity is above 1
+ *    7   the pass is the last one, 2^64 - 1
+ *    8   a job has visited above half the sites, stuck above visited, a direction above 3 or a parity above 1
+ *    9   the link is stuck
  *   10   a number to be answered is not finite
  *   12   the list for unsound links has fewer than 4 places per site
  *
@@ -175,5 +181,40 @@ uint32_t jj_polyakov_loop(const size_t ext[4], const double *links, size_t n, do
  * direction times sites + site, goes once to the front of found, in an order that is left open; later places keep what
  * they held. out_count = how many there are. room is the length of found. Rows 1, 3, 12. */
 uint32_t jj_link_check(const size_t ext[4], const double *links, size_t n, uint32_t *found, size_t room, uint32_t out_count[1]);
+
+/* ---- overrelaxation: n is the length of links
+ *
+ * The update of a link u whose staples' sum is a: w = u a; then, for the subgroups 0, 1, 2 in turn, v is the projection
+ * of w's block, h the conjugate of v / |v|, and the subgroup's rows of u and of w are left-multiplied by h h; at last u
+ * is projected as by jj_su3_reunitarize. The link is stuck where a |v| is below 1e-12, or where the update has a number
+ * that is not finite.
+ *
+ * A half-sweep updates the links of one direction at the sites of one parity. A job is a half-sweep under way, as nine
+ * numbers: extents t, x, y, z, direction, parity, visited, stuck, pass. Of the parity's sites in ascending order the
+ * first visited are done, and stuck of their links were stuck. A frame visits so many more of them, or all that are
+ * left. Hand each frame the job that the last call handed back, and the same links, with nothing else written to them
+ * between opening and the last frame: no call can tell otherwise. Then it does not matter how a half-sweep is cut into
+ * frames: each of its links becomes its update from the field at opening, or keeps its bits if it is stuck there; all
+ * other links keep theirs. */
+
+/* out = the update of the link u, where staple is its staples' sum. Row 9. */
+uint32_t jj_update_link(const double u[18], const double staple[18], double out[18]);
+
+/* out = the update of the link of direction mu at a site; links stays as it is. The coupling is judged and not otherwise
+ * read. Rows 1, 2, 3, 4, 5, 9. */
+uint32_t jj_overrelax_link(const size_t ext[4], double coupling, size_t site, size_t mu, const double *links, size_t n, double out[18]);
+
+/* Opens a half-sweep: out_job = these extents, direction and parity, visited 0, stuck 0, and what pass held; then pass
+ * holds 1 more. Refused, out_job is nine times 0 and pass as it was. The coupling is judged and not otherwise read; the
+ * seed may be anything, and leaves nothing in the job. Rows 1, 2, 5, 6, 7. */
+uint32_t jj_open_overrelax(const size_t ext[4], double coupling, uint64_t seed, uint64_t pass[1], size_t direction, size_t parity, uint64_t out_job[9]);
+
+/* A frame: visits size more sites of the job's parity in ascending order, or all that are left; any size will do. The
+ * link of the job's direction at each is updated where it stands; a stuck link is kept and counted. job = the same with
+ * visited and stuck moved on. Refused, job and links are as they were. Rows 1, 3, 8. */
+uint32_t jj_frame_overrelax(uint64_t job[9], size_t size, double *links, size_t n);
+
+/* out = 1 where the job has visited all sites of its parity, half of all; else 0. Rows 1, 8. */
+uint32_t jj_finished(const uint64_t job[9], uint32_t out[1]);
 
 #endif

@@ -1,11 +1,12 @@
 -- From what the called functions promise to what a host is promised.
 use Prim.Native.Nat.{ℕ, zero, suc, _*_, _≤_}
-use mathlib.Core.Bool.{Bool, true, false, not}
+use mathlib.Core.Bool.{Bool, true, false, not, cond}
 use mathlib.Core.Path.{_≡_, refl, ap, _∙_}
 use mathlib.Core.List.{List, [], _∷_}
 use native.Mathlib.Omega.{arith}
 use lib.Ieee.{Float}
 use lib.ListN.{length}
+use mir.Val.{boolByte}
 use Rattle.rows.specs.declared.Count.{Count}
 use Rattle.rows.specs.declared.Number.{Number}
 use Rattle.rows.specs.Rows.{firstRow, ifAccepted}
@@ -18,7 +19,12 @@ use Rattle.gauge.specs.Sound.{soundLink, unsoundLinks}
 use Rattle.gauge.proofs.Unsound.{failing-few}
 use Rattle.lattice.specs.Situations.{badExtents}
 use Rattle.lattice.specs.Rows.{checkRows}
+use Rattle.sweep.specs.declared.Job.{Job}
+use Rattle.sweep.specs.declared.Opened.{Opened}
+use Rattle.sweep.specs.declared.Framed.{Framed}
+use Rattle.sweep.specs.Jobs.{FrameCall}
 use Rattle.export.specs.Face.{CountGiven, NumberGiven}
+use Rattle.export.specs.Jobs.{jobIn, jobNumbers, OpenGiven, FrameGiven}
 
 pub count-given : {row n r v : ℕ} {a : Count} → IsCount row n a → r ≡ countRefusal a → v ≡ countValue a → CountGiven row n r (v ∷ [])
 count-given h e f = record { refusal = e ∙ h .refusal; array = ap (λ (k : ℕ). k ∷ []) (f ∙ h .value) }
@@ -48,3 +54,16 @@ module _ (d : List ℕ) (four : length d ≡ 4) (U : Field) where
   pub count-low : (long room : ℕ) {v : ℕ} {a : Count} → IsCount (firstRow (checkRows d long room)) (length (unsoundLinks d U)) a → v ≡ countValue a → v ≤ 262144
   unfolding badExtents
   count-low long room h e = rw (e, h .value) (of-row (firstRow (checkRows d long room)) (λ p. few (fits (fitsOf d) _ p)))
+
+-- ## Jobs
+
+pub open-given : {a b : Opened} {old pass job : List ℕ} → a ≡ b → job ≡ jobNumbers (a .job) → pass ≡ ifAccepted (a .refusal) (a .plan .pass ∷ []) old → OpenGiven b old (a .refusal) pass job
+open-given e h k = record { answer = record { refusal = rw e; array = h ∙ rw e }; passed = k ∙ rw e }
+
+module _ {old : List ℕ} {size : ℕ} {l m : List Float} {j : Job} {a : Framed} (held : j ≡ jobIn old) (e : FrameCall j size l a m) where
+  pub frame-given : {new : List ℕ} → new ≡ ifAccepted (a .refusal) (jobNumbers (a .job)) old → FrameGiven old size l (a .refusal) new m
+  frame-given h = record { refusal = rw (e .answer, held); job = h ∙ rw (e .answer, held); links = rw (e .links, held) }
+
+pub flag : (b : Bool) → boolByte b ≡ cond b 1 0
+flag true = refl
+flag false = refl

@@ -7,3 +7,4 @@ mod lists;
 mod matrices;
 mod observables;
 mod sites;
+mod sweeps;
