@@ -58,7 +58,8 @@ fn norm(t: Tally, scale: f64, wanted: u64) -> Tally {
     t
 }
 
-// The small examples of rows 6, 7 and 9; the list is a field of zeros.
+// The small examples of rows 6, 7 and 9; the list is a field of zeros. Of the first call both 6 and 7
+// hold.
 fn refusals(t: Tally, extents: [usize; 4], zeros: &[f64]) -> Tally {
     let plan = Plan {
         extents,
