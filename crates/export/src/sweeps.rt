@@ -1,4 +1,5 @@
-ghost use Rattle.sweep.specs.Jobs.{updateLinkCall, overrelaxLinkCall, openCall, finishedCall};
+ghost use Rattle.sweep.specs.Single.{updateLinkCall, overrelaxLinkCall};
+ghost use Rattle.sweep.specs.Jobs.{openCall, finishedCall};
 ghost use Rattle.export.specs.Face.{matrixIn, planIn, MatrixGiven};
 ghost use Rattle.export.specs.Jobs.{jobIn, passPlan, OpenGiven, FrameGiven, FinishedGiven};
 use crate::arrays::job_in;

@@ -61,6 +61,11 @@ fn quaternions(call: u32, h: Fnv, p: Pair) -> Fnv {
     }
 }
 
+fn overrelaxed(h: Fnv, p: Pair) -> Fnv {
+    let r = sweep::update_link(p.a, p.b);
+    h.short(r.refusal).matrix(r.matrix)
+}
+
 // Adds the answer of a call to the hash.
 fn answer(call: u32, h: Fnv, p: Pair) -> Fnv {
     if call < 7 {
@@ -72,7 +77,10 @@ fn answer(call: u32, h: Fnv, p: Pair) -> Fnv {
     if call < 16 {
         return subgroups(call, h, p);
     }
-    quaternions(call, h, p)
+    if call < 21 {
+        return quaternions(call, h, p);
+    }
+    overrelaxed(h, p)
 }
 
 fn over_pairs(set: Set, call: u32) -> Fnv {
@@ -118,4 +126,9 @@ pub fn lines(set: Set) {
     line(set, 18, b"quat_conj");
     line(set, 19, b"quat_mul");
     line(set, 20, b"quat_to_mat");
+}
+
+// The same for the update of a link a with the staple b.
+pub fn update_line(set: Set) {
+    line(set, 21, b"update_link");
 }

@@ -11,7 +11,7 @@ use rows::Count;
 use rows::Number;
 
 // Makes every link of a field by itself: link n is the one of direction n / sites at site n % sites.
-fn fill(kind: Kind, links: &mut [f64]) {
+pub fn fill(kind: Kind, links: &mut [f64]) {
     let sites = links.len() / 72;
     if sites == 0 {
         return;
@@ -22,7 +22,7 @@ fn fill(kind: Kind, links: &mut [f64]) {
     }
 }
 
-fn over_links(links: &[f64]) -> Fnv {
+pub fn over_links(links: &[f64]) -> Fnv {
     let mut h = Fnv::EMPTY;
     for k in 0..links.len() {
         h = h.number(links[k]);

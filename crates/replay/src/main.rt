@@ -7,6 +7,7 @@ mod hash;
 mod inputs;
 mod print;
 mod site_lines;
+mod sweep_lines;
 
 use inputs::Kind;
 use inputs::Set;
@@ -23,6 +24,17 @@ fn lattice_lines(extents: [usize; 4], links: &mut [f64]) {
     field_lines::lines(extents, Kind::Units, b"units", links);
 }
 
+// Overrelaxation, one update and whole sweeps.
+fn sweep_part() {
+    arithmetic::update_line(Set::Raw);
+    arithmetic::update_line(Set::Units);
+    sweep_lines::bound_lines();
+    let mut links = [0.0; 2304];
+    sweep_lines::lines(Kind::Group, b"group", &mut links);
+    sweep_lines::lines(Kind::Damaged, b"damaged", &mut links);
+    sweep_lines::lines(Kind::Units, b"units", &mut links);
+}
+
 fn main() {
     arithmetic::lines(Set::Raw);
     arithmetic::lines(Set::Units);
@@ -32,4 +44,5 @@ fn main() {
     lattice_lines([4, 2, 2, 2], &mut links);
     let mut links = [0.0; 6912];
     lattice_lines([2, 6, 4, 2], &mut links);
+    sweep_part();
 }
