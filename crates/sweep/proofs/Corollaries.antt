@@ -1,4 +1,4 @@
--- What follows from demand 3: specs/Sweeps.antt has the claims.
+-- What follows from `FramesAreVisits`, for one job: specs/Sweeps.antt has the claims.
 use Prim.Native.Nat.{ℕ, _*_, min}
 use mathlib.Core.Bool.{Bool, true, false, Bool-discrete}
 use mathlib.Core.List.{List, [], _∷_, List·Mem, filter, mem-filter, not-mem-nil}
