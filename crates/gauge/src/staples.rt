@@ -140,7 +140,8 @@ fn add_staples(
     add_matrix(add_matrix(a, upper), lower)
 }
 
-// The sum of the six staples around a link.
+// The sum of the six staples around a link. Two calls of `add_staples`, so that it stands by itself in
+// the machine's code: merged into a loop it would lose its pairs.
 pub fn staple(links: &[f64], d: [usize; 4], n: usize, mu: usize) -> Su3
     requires { ⌜ Link d (now links) n mu ⌝ }
     ensures { λ r. ⌜ r ≡ stapleOf d (linkOf d (now (links .entry))) n mu ⌝ }
@@ -151,12 +152,15 @@ pub fn staple(links: &[f64], d: [usize; 4], n: usize, mu: usize) -> Su3
     let down = near.down;
     let f = up[mu];
     let mut a = nothing();
-    for nu in 0..4 {
-        if nu != mu {
-            let u = up[nu];
-            let b = down[nu];
-            a = add_staples(links, v, mu, nu, n, f, u, b, f + b - n, a);
-        }
+    for nu in 0..mu {
+        let u = up[nu];
+        let b = down[nu];
+        a = add_staples(links, v, mu, nu, n, f, u, b, f + b - n, a);
+    }
+    for nu in mu + 1..4 {
+        let u = up[nu];
+        let b = down[nu];
+        a = add_staples(links, v, mu, nu, n, f, u, b, f + b - n, a);
     }
     matrix(a)
 }
