@@ -16,8 +16,8 @@ struct Pair {
     im1: f64,
 }
 
-// A matrix whose entries stand in pairs: the columns of the first two rows, then what is left of
-// the third. The compiler works out the products that are added to it in these pairs.
+// A matrix with its entries in pairs: a pair for each column of the first two rows, then the third row.
+// The compiler works out in such pairs what is added to it.
 struct Paired {
     c0: Pair,
     c1: Pair,
@@ -26,6 +26,7 @@ struct Paired {
     last: C64,
 }
 
+// The pair p, and a added to its first, b to its second number.
 fn add_pair(p: Pair, a: C64, b: C64) -> Pair
     ensures { λ r. ⌜ r ≡ pairOf (cadd (firstOf p) a) (cadd (secondOf p) b) ⌝ }
 {
