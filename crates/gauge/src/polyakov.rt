@@ -15,7 +15,7 @@ fn loop_trace(links: &[f64], d: [usize; 4], v: usize, k: usize) -> C64
     let first = nt * k;
     let mut p = Su3::IDENTITY;
     for t in 0..nt {
-        p = links::mul_by(p, links, links::place(v, 0, first + t));
+        p = p.mul(links::link(links, v, 0, first + t));
     }
     p.trace()
 }

@@ -5,7 +5,6 @@ use mathlib.Core.Path.{_≡_}
 use native.Mathlib.Omega.{arith}
 use Rattle.geometry.proofs.Shape.{axis-in, volume-high}
 use Rattle.links.specs.Field.{fieldOf}
-use Rattle.links.proofs.Laws.{room-at}
 use Rattle.gauge.specs.Polyakov.{polyakovTrace}
 use Rattle.gauge.proofs.Fits.{sized}
 use Rattle.gauge.proofs.TimeLine.{lineBy, line-none, line-next, line-below, line-by}
@@ -30,21 +29,28 @@ mul-first c =
 loop-holds : tie.Need-loop-holds Inv-loop μ-loop
 loop-holds c = (omega arith, line-none _ _)
 
-add-place : tie.Need-add-place Inv-loop μ-loop
-add-place c =
+add-link : tie.Need-add-link Inv-loop μ-loop
+add-link c =
     let q = c .before .before .before .pre in
     let d = c .before .before .before .args .t2 in
     let below = line-below d (axis-in d (q .0 .shape) 0 (omega arith)) (c .before .before .before .args .k) (c .before .loop .t) (q .2) (c .loop-test .taken) in
     omega (arith, below, volume-high d (q .0 .shape))
 
-place-requires : tie.Need-place-requires Inv-loop μ-loop
-place-requires c κs = let q = c .before .before .before .pre in let ax = axis-in _ (q .0 .shape) 0 (omega arith) in let high = volume-high _ (q .0 .shape) in rw (q .1) (high, omega arith, line-below _ ax _ _ (q .2) (c .loop-test .taken))
+link-requires : tie.Need-link-requires Inv-loop μ-loop
+link-requires c κs =
+    let q = c .before .before .before .pre in
+    let ax = axis-in _ (q .0 .shape) 0 (omega arith) in
+    rw (q .1) (record { sized = sized _ _ (q .0); axis = omega arith; below = line-below _ ax _ _ (q .2) (c .loop-test .taken) })
 
-mul-by-requires : tie.Need-mul-by-requires Inv-loop μ-loop
-mul-by-requires c κs = let q = c .before .before .before .before .pre in let ax = axis-in _ (q .0 .shape) 0 (omega arith) in let high = volume-high _ (q .0 .shape) in room-at _ _ _ _ (sized _ _ (q .0)) (omega arith) (line-below _ ax _ _ (q .2) (c .before .loop-test .taken)) (rw (q .1) at (c .place .ensures))
+add-t : tie.Need-add-t Inv-loop μ-loop
+add-t c =
+    let q = c .before .before .before .before .before .pre in
+    let d = c .before .before .before .before .before .args .t2 in
+    let below = line-below d (axis-in d (q .0 .shape) 0 (omega arith)) (c .before .before .before .before .before .args .k) (c .before .before .before .loop .t) (q .2) (c .before .before .loop-test .taken) in
+    omega (arith, below, volume-high d (q .0 .shape))
 
 loop-again : tie.Need-loop-again Inv-loop μ-loop
-loop-again c = (omega arith, line-next _ _ _ (c .before .before .before .loop .inv .1) (rw (c .before .place .ensures) at (c .mul-by .ensures)))
+loop-again c = (omega arith, line-next _ _ _ (c .before .before .before .loop .inv .1) (rw (c .before .link .ensures) at (c .mul .ensures)))
 
 returns : tie.Need-returns Inv-loop μ-loop
 unfolding polyakovTrace
@@ -54,4 +60,4 @@ returns c =
     rw (c .trace .ensures, c .before .before .loop .inv .1, q .1, line-by _ (axis-in _ (q .0 .shape) 0 (omega arith)) _ (q .2) _ _ e)
 
 pub loop-trace-spec : {M : Type 1} → statement M
-loop-trace-spec = tie.close (tie.spec Inv-loop μ-loop (λ c. search needs) mul-first loop-holds add-place place-requires mul-by-requires (λ c. search needs) (λ c. search needs) loop-again (λ c κs. search needs) returns)
+loop-trace-spec = tie.close (tie.spec Inv-loop μ-loop (λ c. search needs) mul-first loop-holds add-link link-requires (λ c κs. search needs) add-t (λ c. search needs) loop-again (λ c κs. search needs) returns)

@@ -16,7 +16,7 @@ mul-by-requires : tie.Need-mul-by-requires
 mul-by-requires c κs = let q = c .before .before .before .before .before .before .before .before .before .before .pre in room-at _ _ _ _ (q .sized) (q .other) (q .back) (c .place6 .ensures)
 
 returns : tie.Need-returns
-returns c = rw (c .add2 .ensures, c .before .add .ensures, c .before .before .mul-by .ensures, c .before .before .before .place6 .ensures, c .before .before .before .before .dag-mul-dag-at .ensures, c .before .before .before .before .before .place5 .ensures, c .before .before .before .before .before .before .place4 .ensures, c .before .before .before .before .before .before .before .mul-dag-by .ensures, c .before .before .before .before .before .before .before .before .place3 .ensures, c .before .before .before .before .before .before .before .before .before .mul-dag-at .ensures, c .before .before .before .before .before .before .before .before .before .before .place2 .ensures, c .before .before .before .before .before .before .before .before .before .before .before .place .ensures)
+returns c = rw (c .add-matrix2 .ensures, c .before .add-matrix .ensures, c .before .before .mul-by .ensures, c .before .before .before .place6 .ensures, c .before .before .before .before .dag-mul-dag-at .ensures, c .before .before .before .before .before .place5 .ensures, c .before .before .before .before .before .before .place4 .ensures, c .before .before .before .before .before .before .before .mul-dag-by .ensures, c .before .before .before .before .before .before .before .before .place3 .ensures, c .before .before .before .before .before .before .before .before .before .mul-dag-at .ensures, c .before .before .before .before .before .before .before .before .before .before .place2 .ensures, c .before .before .before .before .before .before .before .before .before .before .before .place .ensures)
 
 pub add-staples-spec : {M : Type 1} → statement M
 add-staples-spec = tie.close (tie.spec (λ c κs. search needs) (λ c κs. search needs) mul-dag-at-requires (λ c κs. search needs) mul-dag-by-requires (λ c κs. search needs) (λ c κs. search needs) dag-mul-dag-at-requires (λ c κs. search needs) mul-by-requires (λ c κs. search needs) (λ c κs. search needs) returns)

@@ -1,0 +1,12 @@
+use mathlib.Core.Path.{refl}
+use Rattle.mat.specs.Complex.{cadd}
+use borrow.Author.Needs.{needs}
+use Rattle.gauge.proofs.staples.add_pair.Statement.{statement}
+use Rattle.gauge.proofs.staples.add_pair.Tie as tie
+
+returns : tie.Need-returns
+unfolding cadd
+returns c = refl
+
+pub add-pair-spec : {M : Type 1} → statement M
+add-pair-spec = tie.close (tie.spec returns)
