@@ -1,5 +1,6 @@
 // Observables and updates of a field that fits: the list holds one of the extents d, and sites and
 // directions are in range. The crates above judge what a host hands in.
+mod paired;
 mod plaquettes;
 mod polyakov;
 mod sound;

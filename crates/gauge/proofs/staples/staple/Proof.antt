@@ -7,7 +7,7 @@ use borrow.Author.Tests.{eq-eqb, ne-eqb}
 use Rattle.geometry.proofs.Shape.{volume-high}
 use Rattle.geometry.proofs.Neighbour.{near-up, near-down, up-down}
 use Rattle.links.specs.Field.{fieldOf}
-use Rattle.gauge.specs.SideBySide.{matrixOf}
+use Rattle.gauge.specs.Paired.{matrixOf}
 use Rattle.gauge.proofs.Around.{staplesBy, staple-by}
 use Rattle.gauge.proofs.Fits.{ring}
 use Rattle.gauge.proofs.staples.staple.Statement.{statement}
@@ -33,7 +33,7 @@ neighbours-requires c κs = (c .before .before .pre .holds .shape, c .before .be
 
 loop-holds : tie.Need-loop-holds Inv-loop μ-loop Inv-loop2 μ-loop2
 unfolding staplesBy
-loop-holds c = (omega arith, c .nothing .ensures)
+loop-holds c = (omega arith, c .zero-sum .ensures)
 
 add-add-staples : tie.Need-add-add-staples Inv-loop μ-loop Inv-loop2 μ-loop2
 add-add-staples c =

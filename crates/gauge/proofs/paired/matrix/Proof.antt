@@ -1,7 +1,7 @@
-use Rattle.gauge.specs.SideBySide.{matrixOf}
+use Rattle.gauge.specs.Paired.{matrixOf}
 use borrow.Author.Needs.{needs}
-use Rattle.gauge.proofs.staples.matrix.Statement.{statement}
-use Rattle.gauge.proofs.staples.matrix.Tie as tie
+use Rattle.gauge.proofs.paired.matrix.Statement.{statement}
+use Rattle.gauge.proofs.paired.matrix.Tie as tie
 
 returns : tie.Need-returns
 unfolding matrixOf

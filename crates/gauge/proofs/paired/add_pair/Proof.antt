@@ -1,8 +1,8 @@
 use mathlib.Core.Path.{refl}
 use Rattle.mat.specs.Complex.{cadd}
 use borrow.Author.Needs.{needs}
-use Rattle.gauge.proofs.staples.add_pair.Statement.{statement}
-use Rattle.gauge.proofs.staples.add_pair.Tie as tie
+use Rattle.gauge.proofs.paired.add_pair.Statement.{statement}
+use Rattle.gauge.proofs.paired.add_pair.Tie as tie
 
 returns : tie.Need-returns
 unfolding cadd

@@ -2,8 +2,8 @@
 use mathlib.Core.List.{[], _∷_}
 use Rattle.mat.specs.declared.C64.{C64}
 use Rattle.mat.specs.declared.Su3.{Su3}
-use Rattle.gauge.specs.declared.staples.Pair.{Pair}
-use Rattle.gauge.specs.declared.staples.Paired.{Paired}
+use Rattle.gauge.specs.declared.paired.Pair.{Pair}
+use Rattle.gauge.specs.declared.paired.Paired.{Paired}
 
 abbrev pub pairOf : C64 → C64 → Pair
 pairOf a b = record { re0 = a .re; re1 = b .re; im0 = a .im; im1 = b .im }

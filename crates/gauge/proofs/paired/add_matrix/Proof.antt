@@ -1,8 +1,8 @@
 use Rattle.mat.specs.Matrix.{addOf}
-use Rattle.gauge.specs.SideBySide.{matrixOf}
+use Rattle.gauge.specs.Paired.{matrixOf}
 use borrow.Author.Needs.{needs}
-use Rattle.gauge.proofs.staples.add_matrix.Statement.{statement}
-use Rattle.gauge.proofs.staples.add_matrix.Tie as tie
+use Rattle.gauge.proofs.paired.add_matrix.Statement.{statement}
+use Rattle.gauge.proofs.paired.add_matrix.Tie as tie
 
 returns : tie.Need-returns
 unfolding matrixOf addOf
