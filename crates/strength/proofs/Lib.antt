@@ -1,0 +1,3 @@
+pub mod Corners
+pub mod Locality
+pub mod ByKind

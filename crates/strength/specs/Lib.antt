@@ -1,0 +1,4 @@
+-- `Clover` and `Densities` define, over the field function U, what the functions compute; `Claims` says which links it depends on.
+pub mod Clover
+pub mod Densities
+pub mod Claims

@@ -1,0 +1,16 @@
+// The clover field strength and the densities at a site of a field that fits: the list holds one of the
+// extents d, and sites and directions are in range. A site's neighbours are handed in, so that a walk over
+// all sites needs no division.
+mod clover;
+mod densities;
+
+pub use clover::clover_leaves;
+pub use clover::field_strength;
+pub use densities::density_at;
+
+// A density, and for the electric one its axis of space: 0 is x.
+pub enum Density {
+    Action,
+    Charge,
+    Electric(usize),
+}
