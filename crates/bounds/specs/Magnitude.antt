@@ -1,0 +1,43 @@
+-- Bounds on f64 by powers of two, and the test that a list's numbers are from −2 to 2.
+use Prim.Native.Nat.{ℕ, _*_, _^_, _<_, _≤_}
+use mathlib.Core.Bool.{Bool, _&&_}
+use mathlib.Core.List.{List}
+use lib.Ieee.{Float, nan, inf, fin, binary64, up, down, neg, le, ofBits}
+use lib.ListN.{length, getD}
+use Rattle.loops.specs.Loops.{allBelow}
+use Rattle.mat.specs.declared.C64.{C64}
+use Rattle.mat.specs.declared.Su3.{Su3}
+use Rattle.mat.specs.Matrix.{ent}
+
+-- ## Bounds
+
+-- finite, and at most 2ᵏ in absolute value
+abbrev pub Below : ℕ → Float → Type 0
+Below k nan = ⊥
+Below k (inf s) = ⊥
+Below k (fin s m e) = m * up e ≤ 2 ^ k * down e
+
+-- a bound that f64 does not reach says nothing: so the laws have no side conditions, and 1023 is asked for once
+pub record Magnitude (k : ℕ) (x : Float) : Type 0 where
+  pub bound : k ≤ 1023 → Below k x
+
+-- both parts of a complex number
+pub record ComplexMagnitude (k : ℕ) (z : C64) : Type 0 where
+  pub re : Magnitude k (z .re)
+  pub im : Magnitude k (z .im)
+
+-- the nine entries of a matrix
+pub record MatrixMagnitude (k : ℕ) (u : Su3) : Type 0 where
+  pub entry : (i : ℕ) → i < 9 → ComplexMagnitude k (ent u i)
+
+-- ## The test
+
+abbrev pub ftwo : Float
+ftwo = ofBits binary64 0x4000_0000_0000_0000
+
+-- from −2 to 2: no infinity and no NaN is
+unfoldable pub withinTwo : Float → Bool
+withinTwo x = le (neg ftwo) x && le x ftwo
+
+unfoldable pub allWithinTwo : List Float → Bool
+allWithinTwo l = allBelow (λ k. withinTwo (getD l k nan)) (length l)
