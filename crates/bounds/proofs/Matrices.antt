@@ -1,8 +1,8 @@
 -- Operations on complex numbers and on matrices keep bounds by powers of two, with another exponent.
-use Prim.Native.Nat.{ℕ, zero, suc, _+_, _*_, _≤_, _<_}
+use Prim.Native.Nat.{ℕ, zero, suc, _+_, _*_, _/_, _%_, _≤_, _<_}
 use mathlib.Core.Bool.{true}
 use mathlib.Core.List.{List, [], _∷_}
-use mathlib.Core.Path.{_≡_}
+use mathlib.Core.Path.{_≡_, subst}
 use native.Mathlib.Omega.{arith}
 use lib.Dec.{T, leb, lit≤}
 use lib.ListN.{getD, set}
@@ -15,6 +15,7 @@ use Rattle.mat.specs.Complex.{czero, cone, cnan, conjOf, cscale, cadd, csub, cm
 use Rattle.mat.specs.Matrix.{at, ent, tabulate, each, zeroOf, identityOf, daggerOf, scaleOf, addOf, subOf, traceOf, reTr, finiteMatrix}
 use Rattle.mat.specs.Product.{sum3, rowCol, rowRow, colCol, mulOf, mulDagOf, dagMulOf}
 use Rattle.mat.specs.Traceless.{antiOf, subDiag, tracelessOf}
+use Rattle.mat.proofs.Entries.{table-at}
 use Rattle.bounds.specs.Magnitude.{Magnitude, ComplexMagnitude, MatrixMagnitude}
 use Rattle.bounds.proofs.Numbers.{magnitude-mono, magnitude-neg, magnitude-mul, magnitude-add, magnitude-sub, magnitude-finite, sum-grows, magnitude-zero, magnitude-one, magnitude-half, magnitude-third}
 
@@ -61,47 +62,44 @@ magnitude-cone = record { re = magnitude-one; im = magnitude-zero }
 pub complex-sum : {z : C64} {f : ℕ → C64} {k : ℕ} → ComplexMagnitude k z → (n : ℕ) → ((i : ℕ) → i < n → ComplexMagnitude k (f i)) → ComplexMagnitude (k + n) (foldTo cadd z f n)
 complex-sum = sum-grows ComplexMagnitude cadd (λ z j k. complex-mono) (λ z w k. magnitude-cadd)
 
--- a sum from 0 of three products
-product : {f g : ℕ → C64} {j k : ℕ} → ((i : ℕ) → i < 3 → ComplexMagnitude j (f i)) → ((i : ℕ) → i < 3 → ComplexMagnitude k (g i)) → ComplexMagnitude (j + k + 4) (sum3 (λ i. cmul (f i) (g i)))
-product a b = complex-mono (omega arith) (complex-sum magnitude-czero 3 (λ i l. magnitude-cmul (a i l) (b i l)))
-
 -- ## Matrices by their entries
 
-at-place : {u : Su3} {k : ℕ} → MatrixMagnitude k u → (i j : ℕ) → i < 3 → j < 3 → ComplexMagnitude k (at u i j)
-at-place a i j g h = a .entry (3 * i + j) (omega arith)
-
-nine : {a b c d e f g h i : C64} {k : ℕ} → ComplexMagnitude k a → ComplexMagnitude k b → ComplexMagnitude k c → ComplexMagnitude k d → ComplexMagnitude k e → ComplexMagnitude k f → ComplexMagnitude k g → ComplexMagnitude k h → ComplexMagnitude k i
-    → (n : ℕ) → n < 9 → ComplexMagnitude k (getD (a ∷ b ∷ c ∷ d ∷ e ∷ f ∷ g ∷ h ∷ i ∷ []) n cnan)
-nine a b c d e f g h i zero l = a
-nine a b c d e f g h i (suc zero) l = b
-nine a b c d e f g h i (suc (suc zero)) l = c
-nine a b c d e f g h i (suc (suc (suc zero))) l = d
-nine a b c d e f g h i (suc (suc (suc (suc zero)))) l = e
-nine a b c d e f g h i (suc (suc (suc (suc (suc zero))))) l = f
-nine a b c d e f g h i (suc (suc (suc (suc (suc (suc zero)))))) l = g
-nine a b c d e f g h i (suc (suc (suc (suc (suc (suc (suc zero))))))) l = h
-nine a b c d e f g h i (suc (suc (suc (suc (suc (suc (suc (suc zero)))))))) l = i
-nine a b c d e f g h i (suc (suc (suc (suc (suc (suc (suc (suc (suc n))))))))) l = absurd (omega arith)
-
-pub magnitude-each : {f : ℕ → C64} {k : ℕ} → ((i : ℕ) → i < 9 → ComplexMagnitude k (f i)) → MatrixMagnitude k (each f)
-magnitude-each {f} {k} a = record { entry = nine (b 0 tt) (b 1 tt) (b 2 tt) (b 3 tt) (b 4 tt) (b 5 tt) (b 6 tt) (b 7 tt) (b 8 tt) }
-  where
-    b : (i : ℕ) → T (leb (suc i) 9) → ComplexMagnitude k (f i)
-    b i p = a i (lit≤ p)
+pub magnitude-at : {u : Su3} {k : ℕ} → MatrixMagnitude k u → (i j : ℕ) → i < 3 → j < 3 → ComplexMagnitude k (at u i j)
+magnitude-at a i j g h = a .entry (3 * i + j) (omega arith)
 
 pub magnitude-tabulate : {f : ℕ → ℕ → C64} {k : ℕ} → ((i j : ℕ) → i < 3 → j < 3 → ComplexMagnitude k (f i j)) → MatrixMagnitude k (tabulate f)
-magnitude-tabulate {f} {k} a = record { entry = nine (b 0 0 tt tt) (b 0 1 tt tt) (b 0 2 tt tt) (b 1 0 tt tt) (b 1 1 tt tt) (b 1 2 tt tt) (b 2 0 tt tt) (b 2 1 tt tt) (b 2 2 tt tt) }
-  where
-    b : (i j : ℕ) → T (leb (suc i) 3) → T (leb (suc j) 3) → ComplexMagnitude k (f i j)
-    b i j p q = a i j (lit≤ p) (lit≤ q)
+magnitude-tabulate {f} {k} a = record {
+  entry = λ n g.
+      let i = n / 3 in
+      let j = n % 3 in
+      let e : 3 * i + j ≡ n = omega arith in
+      subst (λ (m : ℕ). ComplexMagnitude k (ent (tabulate f) m)) e
+      (subst (ComplexMagnitude k) (table-at f i j (omega arith) (omega arith)) (a i j (omega arith) (omega arith)));
+}
+
+pub magnitude-each : {f : ℕ → C64} {k : ℕ} → ((i : ℕ) → i < 9 → ComplexMagnitude k (f i)) → MatrixMagnitude k (each f)
+magnitude-each {f} a = magnitude-tabulate {f = λ i j. f (3 * i + j)} (λ i j g h. a (3 * i + j) (omega arith))
+
+magnitude-set : {v : C64} {k : ℕ} → ComplexMagnitude k v → (l : List C64) (i j : ℕ) → ComplexMagnitude k (getD l j cnan) → ComplexMagnitude k (getD (set l i v) j cnan)
+magnitude-set a [] i j b = b
+magnitude-set a (x ∷ l) zero zero b = a
+magnitude-set a (x ∷ l) zero (suc j) b = b
+magnitude-set a (x ∷ l) (suc i) zero b = b
+magnitude-set a (x ∷ l) (suc i) (suc j) b = magnitude-set a l i j b
+
+-- another diagonal
+magnitude-diagonal : {u : Su3} {x y z : C64} {k : ℕ} → MatrixMagnitude k u → ComplexMagnitude k x → ComplexMagnitude k y → ComplexMagnitude k z → MatrixMagnitude k (record { m = set (set (set (u .m) 0 x) 4 y) 8 z })
+magnitude-diagonal {u} {x} {y} a b c d = record {
+  entry = λ i g. magnitude-set d (set (set (u .m) 0 x) 4 y) 8 i (magnitude-set c (set (u .m) 0 x) 4 i (magnitude-set b (u .m) 0 i (a .entry i g)));
+}
 
 pub magnitude-zeroOf : {k : ℕ} → MatrixMagnitude k zeroOf
 magnitude-zeroOf = magnitude-each (λ i g. magnitude-czero)
 
 pub magnitude-identityOf : MatrixMagnitude 0 identityOf
-magnitude-identityOf = record {
-  entry = nine magnitude-cone magnitude-czero magnitude-czero magnitude-czero magnitude-cone magnitude-czero magnitude-czero magnitude-czero magnitude-cone;
-}
+magnitude-identityOf = magnitude-diagonal magnitude-zeroOf magnitude-cone magnitude-cone magnitude-cone
+
+-- ## Entry by entry
 
 module _ {u : Su3} where
   pub matrix-mono : {j k : ℕ} → j ≤ k → MatrixMagnitude j u → MatrixMagnitude k u
@@ -113,13 +111,11 @@ module _ {u : Su3} where
 
   pub magnitude-daggerOf : {k : ℕ} → MatrixMagnitude k u → MatrixMagnitude k (daggerOf u)
   unfolding daggerOf
-  magnitude-daggerOf a = magnitude-tabulate (λ i j g h. magnitude-conjOf (at-place a j i h g))
+  magnitude-daggerOf a = magnitude-tabulate (λ i j g h. magnitude-conjOf (magnitude-at a j i h g))
 
   pub magnitude-scaleOf : {s : Float} {j k : ℕ} → MatrixMagnitude j u → Magnitude k s → MatrixMagnitude (j + k) (scaleOf u s)
   unfolding scaleOf
   magnitude-scaleOf a b = magnitude-each (λ i g. magnitude-cscale (a .entry i g) b)
-
-  -- ## Sums and products
 
   module _ {v : Su3} where
     pub magnitude-addOf : {k : ℕ} → MatrixMagnitude k u → MatrixMagnitude k v → MatrixMagnitude (k + 1) (addOf u v)
@@ -130,53 +126,46 @@ module _ {u : Su3} where
     unfolding subOf
     magnitude-subOf a b = magnitude-each (λ i g. magnitude-csub (a .entry i g) (b .entry i g))
 
-    pub magnitude-mulOf : {j k : ℕ} → MatrixMagnitude j u → MatrixMagnitude k v → MatrixMagnitude (j + k + 4) (mulOf u v)
-    unfolding mulOf rowCol
-    magnitude-mulOf a b = magnitude-tabulate (λ i j g h. product (λ k l. at-place a i k g l) (λ k l. at-place b k j l h))
+-- ## Products
 
-    pub magnitude-mulDagOf : {j k : ℕ} → MatrixMagnitude j u → MatrixMagnitude k v → MatrixMagnitude (j + k + 4) (mulDagOf u v)
-    unfolding mulDagOf rowRow
-    magnitude-mulDagOf a b = magnitude-tabulate (λ i j g h. product (λ k l. at-place a i k g l) (λ k l. magnitude-conjOf (at-place b j k h l)))
+-- a sum from 0 of three products
+product-entry : {f g : ℕ → C64} {j k : ℕ} → ((i : ℕ) → i < 3 → ComplexMagnitude j (f i)) → ((i : ℕ) → i < 3 → ComplexMagnitude k (g i)) → ComplexMagnitude (j + k + 4) (sum3 (λ i. cmul (f i) (g i)))
+product-entry a b = complex-mono (omega arith) (complex-sum magnitude-czero 3 (λ i l. magnitude-cmul (a i l) (b i l)))
 
-    pub magnitude-dagMulOf : {j k : ℕ} → MatrixMagnitude j u → MatrixMagnitude k v → MatrixMagnitude (j + k + 4) (dagMulOf u v)
-    unfolding dagMulOf colCol
-    magnitude-dagMulOf a b = magnitude-tabulate (λ i j g h. product (λ k l. magnitude-conjOf (at-place a k i l g)) (λ k l. at-place b k j l h))
+module _ {u v : Su3} {j k : ℕ} (a : MatrixMagnitude j u) (b : MatrixMagnitude k v) where
+  pub magnitude-mulOf : MatrixMagnitude (j + k + 4) (mulOf u v)
+  unfolding mulOf rowCol
+  magnitude-mulOf = magnitude-tabulate (λ i j g h. product-entry (λ k l. magnitude-at a i k g l) (λ k l. magnitude-at b k j l h))
 
-  -- ## Traces, and the traceless anti-Hermitian part
+  pub magnitude-mulDagOf : MatrixMagnitude (j + k + 4) (mulDagOf u v)
+  unfolding mulDagOf rowRow
+  magnitude-mulDagOf = magnitude-tabulate (λ i j g h. product-entry (λ k l. magnitude-at a i k g l) (λ k l. magnitude-conjOf (magnitude-at b j k h l)))
 
-  pub magnitude-traceOf : {k : ℕ} → MatrixMagnitude k u → ComplexMagnitude (k + 2) (traceOf u)
+  pub magnitude-dagMulOf : MatrixMagnitude (j + k + 4) (dagMulOf u v)
+  unfolding dagMulOf colCol
+  magnitude-dagMulOf = magnitude-tabulate (λ i j g h. product-entry (λ k l. magnitude-conjOf (magnitude-at a k i l g)) (λ k l. magnitude-at b k j l h))
+
+-- ## Traces, and the traceless anti-Hermitian part
+
+module _ {u : Su3} {k : ℕ} (a : MatrixMagnitude k u) where
+  pub magnitude-traceOf : ComplexMagnitude (k + 2) (traceOf u)
   unfolding traceOf
-  magnitude-traceOf a = complex-mono (omega arith) (magnitude-cadd (magnitude-cadd (a .entry 0 (lit≤ tt)) (a .entry 4 (lit≤ tt))) (complex-mono (omega arith) (a .entry 8 (lit≤ tt))))
+  magnitude-traceOf = complex-mono (omega arith) (magnitude-cadd (magnitude-cadd (a .entry 0 (lit≤ tt)) (a .entry 4 (lit≤ tt))) (complex-mono (omega arith) (a .entry 8 (lit≤ tt))))
 
-  pub magnitude-reTr : {k : ℕ} → MatrixMagnitude k u → Magnitude (k + 2) (reTr u)
+  pub magnitude-reTr : Magnitude (k + 2) (reTr u)
   unfolding reTr
-  magnitude-reTr a = magnitude-mono (omega arith) (magnitude-add (magnitude-add (a .entry 0 (lit≤ tt) .re) (a .entry 4 (lit≤ tt) .re)) (magnitude-mono (omega arith) (a .entry 8 (lit≤ tt) .re)))
+  magnitude-reTr = magnitude-mono (omega arith) (magnitude-add (magnitude-add (a .entry 0 (lit≤ tt) .re) (a .entry 4 (lit≤ tt) .re)) (magnitude-mono (omega arith) (a .entry 8 (lit≤ tt) .re)))
 
-pub magnitude-antiOf : {u : Su3} {k : ℕ} → MatrixMagnitude k u → MatrixMagnitude (k + 1) (antiOf u)
-unfolding antiOf
-magnitude-antiOf a = matrix-mono (omega arith) (magnitude-scaleOf (magnitude-subOf a (magnitude-daggerOf a)) magnitude-half)
-
-set-at-place : {v : C64} {k : ℕ} → ComplexMagnitude k v → (l : List C64) (i j : ℕ) → ComplexMagnitude k (getD l j cnan) → ComplexMagnitude k (getD (set l i v) j cnan)
-set-at-place a [] i j b = b
-set-at-place a (x ∷ l) zero zero b = a
-set-at-place a (x ∷ l) zero (suc j) b = b
-set-at-place a (x ∷ l) (suc i) zero b = b
-set-at-place a (x ∷ l) (suc i) (suc j) b = set-at-place a l i j b
+  pub magnitude-antiOf : MatrixMagnitude (k + 1) (antiOf u)
+  unfolding antiOf
+  magnitude-antiOf = matrix-mono (omega arith) (magnitude-scaleOf (magnitude-subOf a (magnitude-daggerOf a)) magnitude-half)
 
 pub magnitude-subDiag : {u : Su3} {t : C64} {k : ℕ} → MatrixMagnitude k u → ComplexMagnitude k t → MatrixMagnitude (k + 1) (subDiag u t)
 unfolding subDiag
-magnitude-subDiag {u} {t} {k} a b =
-    let l = set (u .m) 0 (csub (ent u 0) t) in
-    record {
-      entry = λ i g.
-          set-at-place (on 8 (lit≤ tt)) (set l 4 (csub (ent u 4) t)) 8 i
-          (set-at-place (on 4 (lit≤ tt)) l 4 i
-          (set-at-place (on 0 (lit≤ tt)) (u .m) 0 i
-          (complex-mono (omega arith) (a .entry i g))));
-    }
+magnitude-subDiag {u} {t} {k} a b = magnitude-diagonal (matrix-mono (omega arith) a) (less 0 tt) (less 4 tt) (less 8 tt)
   where
-    on : (i : ℕ) → i < 9 → ComplexMagnitude (k + 1) (csub (ent u i) t)
-    on i g = magnitude-csub (a .entry i g) b
+    less : (i : ℕ) → T (leb (suc i) 9) → ComplexMagnitude (k + 1) (csub (ent u i) t)
+    less i g = magnitude-csub (a .entry i (lit≤ g)) b
 
 pub magnitude-tracelessOf : {u : Su3} {k : ℕ} → MatrixMagnitude k u → MatrixMagnitude (k + 4) (tracelessOf u)
 unfolding tracelessOf

@@ -151,8 +151,8 @@ module _ {A : Type 0} (Bound : ℕ → A → Type 0) (op : A → A → A) (mono 
       mono _ (k + n + 1) (k + suc n) (omega arith)
       (grows _ (f n) (k + n) (sum-grows a n (λ i g. h i (omega arith))) (mono (f n) k (k + n) (omega arith) (h n (omega arith))))
 
-pub magnitude-sum : {z : Float} {f : ℕ → Float} {k : ℕ} → Magnitude k z → (n : ℕ) → ((i : ℕ) → i < n → Magnitude k (f i)) → Magnitude (k + n) (foldTo (λ s x. s ⊞ x) z f n)
-magnitude-sum = sum-grows Magnitude (λ s x. s ⊞ x) (λ x j k. magnitude-mono) (λ x y k. magnitude-add)
+pub magnitude-sum : {z : Float} {f : ℕ → Float} {k : ℕ} → Magnitude k z → (n : ℕ) → ((i : ℕ) → i < n → Magnitude k (f i)) → Magnitude (k + n) (foldTo (add binary64) z f n)
+magnitude-sum = sum-grows Magnitude (add binary64) (λ x j k. magnitude-mono) (λ x y k. magnitude-add)
 
 -- ## The numbers that the formulas name
 

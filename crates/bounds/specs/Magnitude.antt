@@ -11,7 +11,7 @@ use Rattle.mat.specs.Matrix.{ent}
 
 -- ## Bounds
 
--- finite, and at most 2ᵏ in absolute value
+-- finite, and at most 2ᵏ in absolute value; 2ᵉ is up e / down e
 abbrev pub Below : ℕ → Float → Type 0
 Below k nan = ⊥
 Below k (inf s) = ⊥
@@ -35,7 +35,7 @@ pub record MatrixMagnitude (k : ℕ) (u : Su3) : Type 0 where
 abbrev pub ftwo : Float
 ftwo = ofBits binary64 0x4000_0000_0000_0000
 
--- from −2 to 2: no infinity and no NaN is
+-- from −2 to 2: no infinity and no NaN passes
 unfoldable pub withinTwo : Float → Bool
 withinTwo x = le (neg ftwo) x && le x ftwo
 

@@ -1,5 +1,5 @@
-// Bounds on numbers by powers of two: laws (proofs/) that the operations keep them, and one test by
-// which all the numbers of a list have one.
+// Bounds on numbers by powers of two. The laws in proofs/ say what the operations make of a bound; the
+// test here gives the numbers of a list their first one.
 ghost use mathlib.Core.Path.{_≡_};
 ghost use Rattle.bounds.specs.Magnitude.{allWithinTwo};
 
