@@ -45,7 +45,7 @@ module _ (d : List ℕ) where
   unfolding listOf
   length-list U = length-listed _ (72 * volume d)
 
-  number-at : (U : Field) (k : ℕ) → k < 72 * volume d → getD (listOf d U) k nan ≡ partOf (U (k / 18 / volume d) (k / 18 % volume d)) (k % 18)
+  pub number-at : (U : Field) (k : ℕ) → k < 72 * volume d → getD (listOf d U) k nan ≡ partOf (U (k / 18 / volume d) (k / 18 % volume d)) (k % 18)
   unfolding listOf
   number-at U k h = listed-at _ nan (72 * volume d) k h
 

@@ -2,7 +2,7 @@
 use Prim.Native.Nat.{ℕ, _*_, _<_, _≤_}
 use mathlib.Core.Bool.{Bool, true, false, _||_, true≢false}
 use mathlib.Core.List.{List}
-use mathlib.Core.Path.{_≡_, refl}
+use mathlib.Core.Path.{_≡_, refl, sym, _∙_}
 use native.Mathlib.Omega.{arith}
 use lib.Dec.{ltb, eqb}
 use lib.ListN.{length, getD}
@@ -67,12 +67,12 @@ pub or-false : (a b : Bool) → a || b ≡ false → (a ≡ false) × (b ≡ fal
 or-false false b h = (refl, h)
 or-false true b h = (h, absurd (true≢false h))
 
-pub plane-axes : (mu nu : ℕ) → badPlane mu nu ≡ false → (mu < 4) × (nu < 4)
+pub plane-axes : (mu nu : ℕ) → badPlane mu nu ≡ false → (mu < 4) × (nu < 4) × (nu ≡ mu → ⊥)
 unfolding badPlane
 plane-axes mu nu h =
-    let both = or-false (ltb 3 mu || ltb 3 nu) (eqb mu nu) h .0 in
-    let each = or-false (ltb 3 mu) (ltb 3 nu) both in
-    (omega (arith, ltb-false 3 mu (each .0)), omega (arith, ltb-false 3 nu (each .1)))
+    let both = or-false (ltb 3 mu || ltb 3 nu) (eqb mu nu) h in
+    let each = or-false (ltb 3 mu) (ltb 3 nu) (both .0) in
+    (omega (arith, ltb-false 3 mu (each .0)), omega (arith, ltb-false 3 nu (each .1)), λ e. true≢false (sym (eq-eqb mu nu (sym e)) ∙ both .1))
 
 pub coords-within : (d at : List ℕ) → length d ≡ 4 → length at ≡ 4 → badCoords d at ≡ false → Within d at
 unfolding badCoords

@@ -119,7 +119,7 @@ fn bad_plane(mu: usize, nu: usize) -> bool
 }
 
 pub fn plane_row(d: [usize; 4], long: usize, n: usize, mu: usize, nu: usize) -> u32
-    ensures { λ r. ⌜ Judged (planeRows d long n mu nu) (Shape d × (long ≡ 72 * volume d) × (n < volume d) × (mu < 4) × (nu < 4)) r ⌝ }
+    ensures { λ r. ⌜ Judged (planeRows d long n mu nu) (Shape d × (long ≡ 72 * volume d) × (n < volume d) × (mu < 4) × (nu < 4) × (nu ≡ mu → ⊥)) r ⌝ }
 {
     if !geometry::fits(d) {
         return 1;

@@ -17,7 +17,7 @@ ghost use Rattle.lattice.specs.Situations.{badNumber, badPair, badMatrix
 ghost use Rattle.lattice.specs.Answers.{loopAnswer, plaquetteCall, stapleCall, AverageCall, ActionCall, loopCall};
 
 // A matrix as an answer: row 10 where one of its numbers isn't finite.
-fn judged_matrix(u: Su3) -> MatrixAnswer
+pub fn judged_matrix(u: Su3) -> MatrixAnswer
     ensures { λ r. ⌜ r ≡ matrixAnswer (firstRow ((badMatrix u, 10) ∷ [])) u ⌝ }
 {
     if !u.is_finite() {

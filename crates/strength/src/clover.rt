@@ -8,15 +8,7 @@ ghost use Rattle.strength.specs.Clover.{upperLeft, lowerLeft, lowerRight
 ghost use Rattle.strength.specs.Densities.{AtSite};
 
 // U_μ(n) U_ν(f) (U_ν(n) U_μ(u))†: f is n + mu, u is n + nu.
-fn upper_right(
-    links: &[f64],
-    v: usize,
-    mu: usize,
-    nu: usize,
-    n: usize,
-    f: usize,
-    u: usize,
-) -> Su3
+fn upper_right(links: &[f64], v: usize, mu: usize, nu: usize, n: usize, f: usize, u: usize) -> Su3
     requires { ⌜ Corners (now links) v mu nu n f u ⌝ }
     ensures { λ r. ⌜ r ≡ plaquetteAt (fieldOf v (now (links .entry))) mu nu n f u ⌝ }
 {
@@ -30,7 +22,8 @@ fn upper_left(links: &[f64], v: usize, mu: usize, nu: usize, n: usize, b: usize,
     requires { ⌜ Corners (now links) v mu nu n b w ⌝ }
     ensures { λ r. ⌜ r ≡ upperLeft (fieldOf v (now (links .entry))) mu nu n b w ⌝ }
 {
-    links::link(links, v, nu, n).mul_dag(links::link(links, v, mu, w))
+    links::link(links, v, nu, n)
+        .mul_dag(links::link(links, v, mu, w))
         .mul_dag(links::link(links, v, nu, b))
         .mul(links::link(links, v, mu, b))
 }

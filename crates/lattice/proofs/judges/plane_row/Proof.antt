@@ -38,7 +38,7 @@ returns-5 : tie.Need-returns-5
 returns-5 c =
     accepts
     (row-passes 1 _ (good-extents _ (fit (c .before .before .before .before .before))) ∙ row-passes 3 _ (good-links _ (rw (c .before .before .before .before .sites .ensures) at (c .before .before .before .if2 .left))) ∙ row-passes 4 _ (good-site _ (rw (c .before .before .before .before .sites .ensures) at (c .before .before .if3 .left))) ∙ row-passes 5 _ (sym (c .before .bad-plane .ensures) ∙ c .if4 .left) ∙ no-row)
-    (shape (c .before .before .before .before .before), rw (c .before .before .before .before .sites .ensures) at (c .before .before .before .if2 .left), rw (c .before .before .before .before .sites .ensures) at (c .before .before .if3 .left), plane-axes _ _ (sym (c .before .bad-plane .ensures) ∙ c .if4 .left) .0, plane-axes _ _ (sym (c .before .bad-plane .ensures) ∙ c .if4 .left) .1)
+    (shape (c .before .before .before .before .before), rw (c .before .before .before .before .sites .ensures) at (c .before .before .before .if2 .left), rw (c .before .before .before .before .sites .ensures) at (c .before .before .if3 .left), plane-axes _ _ (sym (c .before .bad-plane .ensures) ∙ c .if4 .left) .0, plane-axes _ _ (sym (c .before .bad-plane .ensures) ∙ c .if4 .left) .1, plane-axes _ _ (sym (c .before .bad-plane .ensures) ∙ c .if4 .left) .2)
 
 pub plane-row-spec : {M : Type 1} → statement M
 plane-row-spec = tie.close (tie.spec (λ c κs. search needs) returns sites-requires mul-if2 returns-2 returns-3 (λ c κs. search needs) returns-4 returns-5)

@@ -1,0 +1,62 @@
+-- The situations that these calls add to the lattice's, and each call's rows in the order in which they are tried; row 10 comes after them.
+use Prim.Native.Nat.{ℕ}
+use mathlib.Core.Bool.{Bool, false, not}
+use mathlib.Core.List.{List, [], _∷_}
+use lib.Dec.{ltb, eqb}
+use lib.Ieee.{Float, nan}
+use lib.Ieee.Scale.{finite}
+use lib.ListN.{length, getD}
+use Rattle.loops.specs.Loops.{allBelow}
+use Rattle.mat.specs.declared.Su3.{Su3}
+use Rattle.mat.specs.Matrix.{finiteMatrix}
+use Rattle.geometry.specs.Radix.{volume}
+use Rattle.strength.specs.declared.Density.{Density}
+use Rattle.lattice.specs.Rows.{Rows}
+use Rattle.lattice.specs.Situations.{badExtents, badLinks, badSite, badDirection}
+
+-- ## Situations
+
+-- 3: a density list of wrong length
+unfoldable pub badSites : List ℕ → ℕ → Bool
+badSites d long = not (eqb long (volume d))
+
+-- 5: an electric axis above 2
+unfoldable pub badAxis : Density → Bool
+badAxis Density.Action = false
+badAxis Density.Charge = false
+badAxis (Density.Electric axis) = ltb 2 axis
+
+-- 10: a number of a list isn't finite
+unfoldable pub finiteNumbers : List Float → Bool
+finiteNumbers l = allBelow (λ k. finite (getD l k nan)) (length l)
+
+unfoldable pub badNumbers : List Float → Bool
+badNumbers l = not (finiteNumbers l)
+
+-- 10: a number of six matrices isn't finite
+abbrev pub nthMatrix : List Su3 → ℕ → Su3
+nthMatrix f p = getD f p (record { m = [] })
+
+unfoldable pub finiteSix : List Su3 → Bool
+finiteSix f = allBelow (λ p. finiteMatrix (nthMatrix f p)) 6
+
+unfoldable pub badSix : List Su3 → Bool
+badSix f = not (finiteSix f)
+
+-- ## Rows: d are extents, long the number of link numbers
+
+-- field_strength_at
+abbrev pub strengthRows : List ℕ → ℕ → ℕ → Rows
+strengthRows d long n = (badExtents d, 1) ∷ (badLinks d long, 3) ∷ (badSite d n, 4) ∷ []
+
+-- stout_link
+abbrev pub stoutRows : List ℕ → ℕ → ℕ → ℕ → Rows
+stoutRows d long n mu = (badExtents d, 1) ∷ (badLinks d long, 3) ∷ (badSite d n, 4) ∷ (badDirection mu, 5) ∷ []
+
+-- stout_step; room is the length of the list to be filled
+abbrev pub stepRows : List ℕ → ℕ → ℕ → Rows
+stepRows d long room = (badExtents d, 1) ∷ (badLinks d long, 3) ∷ (badLinks d room, 3) ∷ []
+
+-- action_density, topological_charge_density, electric_sq
+abbrev pub densityRows : List ℕ → ℕ → ℕ → Density → Rows
+densityRows d long room kind = (badExtents d, 1) ∷ (badLinks d long, 3) ∷ (badSites d room, 3) ∷ (badAxis kind, 5) ∷ []

@@ -1,0 +1,90 @@
+use strength::Density;
+ghost use mathlib.Core.Path.{_≡_};
+ghost use Prim.Native.Nat.{_*_, _<_};
+ghost use Rattle.rows.specs.Rows.{Judged};
+ghost use Rattle.geometry.specs.Radix.{volume};
+ghost use Rattle.geometry.specs.Shape.{Shape};
+ghost use Rattle.strength.specs.Densities.{InSpace};
+ghost use Rattle.fields.specs.Situations.{badAxis, strengthRows, stoutRows, stepRows, densityRows};
+
+// The judges: the first row that holds of a call's inputs, and 0 where none does.
+
+pub fn strength_row(d: [usize; 4], long: usize, n: usize) -> u32
+    ensures { λ r. ⌜ Judged (strengthRows d long n) (Shape d × (long ≡ 72 * volume d) × (n < volume d)) r ⌝ }
+{
+    if !geometry::fits(d) {
+        return 1;
+    }
+    let v = geometry::sites(d);
+    if long != 72 * v {
+        return 3;
+    }
+    if n >= v {
+        return 4;
+    }
+    0
+}
+
+pub fn stout_row(d: [usize; 4], long: usize, n: usize, mu: usize) -> u32
+    ensures { λ r. ⌜ Judged (stoutRows d long n mu) (Shape d × (long ≡ 72 * volume d) × (n < volume d) × (mu < 4)) r ⌝ }
+{
+    if !geometry::fits(d) {
+        return 1;
+    }
+    let v = geometry::sites(d);
+    if long != 72 * v {
+        return 3;
+    }
+    if n >= v {
+        return 4;
+    }
+    if mu > 3 {
+        return 5;
+    }
+    0
+}
+
+pub fn step_row(d: [usize; 4], long: usize, room: usize) -> u32
+    ensures { λ r. ⌜ Judged (stepRows d long room) (Shape d × (long ≡ 72 * volume d) × (room ≡ 72 * volume d)) r ⌝ }
+{
+    if !geometry::fits(d) {
+        return 1;
+    }
+    let v = geometry::sites(d);
+    if long != 72 * v {
+        return 3;
+    }
+    if room != 72 * v {
+        return 3;
+    }
+    0
+}
+
+fn bad_axis(kind: Density) -> bool
+    ensures { λ r. ⌜ r ≡ badAxis kind ⌝ }
+{
+    match kind {
+        Density::Action => false,
+        Density::Charge => false,
+        Density::Electric(axis) => axis > 2,
+    }
+}
+
+pub fn density_row(d: [usize; 4], long: usize, room: usize, kind: Density) -> u32
+    ensures { λ r. ⌜ Judged (densityRows d long room kind) (Shape d × (long ≡ 72 * volume d) × (room ≡ volume d) × InSpace kind) r ⌝ }
+{
+    if !geometry::fits(d) {
+        return 1;
+    }
+    let v = geometry::sites(d);
+    if long != 72 * v {
+        return 3;
+    }
+    if room != v {
+        return 3;
+    }
+    if bad_axis(kind) {
+        return 5;
+    }
+    0
+}

@@ -1,0 +1,28 @@
+// Smearing, field strength and densities of a field in a lent list: each call judges what it is handed by
+// the rows of its table, in order, and answers the row's number or what its definition says. A list that is
+// filled stays as it was where the call is refused: no number is stored before all are known to be finite.
+mod densities;
+mod judges;
+mod matrices;
+mod smearing;
+
+pub use densities::action_density;
+pub use densities::electric_sq;
+pub use densities::topological_charge_density;
+use mat::Su3;
+pub use matrices::clover_leaves;
+pub use matrices::field_strength_at;
+pub use smearing::stout_link;
+pub use smearing::stout_step;
+
+// The field strength in the planes 01 02 03 12 13 23 of t, x, y, z, and 0; or the row that refuses the call,
+// and zeros.
+pub struct StrengthAnswer {
+    pub refusal: u32,
+    pub f: [Su3; 6],
+}
+
+// 0 where the list was filled; or the row that refuses the call.
+pub struct ListAnswer {
+    pub refusal: u32,
+}
