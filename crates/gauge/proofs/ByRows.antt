@@ -5,17 +5,17 @@ use mathlib.Core.List.{List, [], _∷_}
 use mathlib.Core.Path.{_≡_, refl}
 use lib.Ieee.{Float}
 use lib.ListN.{length}
-use Rattle.mat.specs.declared.C64.{C64}
-use Rattle.mat.specs.declared.Mat2.{Mat2}
-use Rattle.mat.specs.declared.Quat.{Quat}
-use Rattle.mat.specs.declared.Row.{Row}
+use Rattle.complex.specs.declared.C64.{C64}
+use Rattle.quat.specs.declared.Mat2.{Mat2}
+use Rattle.quat.specs.declared.Quat.{Quat}
+use Rattle.complex.specs.declared.Row.{Row}
 use Rattle.mat.specs.declared.Su3.{Su3}
-use Rattle.mat.specs.Complex.{combination}
-use Rattle.mat.specs.Row.{rowCombination}
+use Rattle.complex.specs.Complex.{combination}
+use Rattle.complex.specs.Row.{rowCombination}
 use Rattle.mat.specs.Product.{mulOf}
 use Rattle.mat.specs.Unitary.{rowOf, ofRows, unitaryOf, reunitarizeOf}
-use Rattle.mat.specs.Quaternion.{projectOf, quatNorm}
-use Rattle.mat.specs.Subgroup.{subgroupOf, blockOf, subBlock, withRow, leftMulRows, leftMulSub}
+use Rattle.quat.specs.Quaternion.{projectOf, quatNorm}
+use Rattle.quat.specs.Subgroup.{subgroupOf, blockOf, subBlock, withRow, leftMulRows, leftMulSub}
 use Rattle.mat.proofs.Entries.{rows-are}
 use Rattle.gauge.specs.declared.Stuck.{Stuck}
 use Rattle.gauge.specs.Update.{stuckLink, isShort, shortNorm, reflectionOf, ifFinite, throughSubgroups, updateLinkOf}

@@ -10,7 +10,7 @@ use native.Mathlib.Omega.{arith}
 use lib.Ieee.{Float, nan, inf, fin, le, neg, ofBits}
 use lib.ListN.{length, getD, drop, set, length-append}
 use lib.Seq.{set-at, take-at, drop-at, drop-cons, append-snoc}
-use Rattle.mat.specs.Rounded.{fone}
+use Rattle.complex.specs.Rounded.{fone}
 use Rattle.geometry.specs.Range.{range}
 use Rattle.links.specs.Field.{placeOf}
 use Rattle.gauge.specs.Sound.{soundNumber, Listed}

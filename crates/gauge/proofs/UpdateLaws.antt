@@ -8,8 +8,8 @@ use Rattle.mat.specs.declared.Su3.{Su3}
 use Rattle.mat.specs.Matrix.{finiteMatrix}
 use Rattle.mat.specs.Product.{mulOf}
 use Rattle.mat.specs.Unitary.{ofRows, unitaryOf, reunitarizeOf}
-use Rattle.mat.specs.Quaternion.{projectOf}
-use Rattle.mat.specs.Subgroup.{subBlock, leftMulSub}
+use Rattle.quat.specs.Quaternion.{projectOf}
+use Rattle.quat.specs.Subgroup.{subBlock, leftMulSub}
 use Rattle.gauge.specs.declared.Updated.{Updated}
 use Rattle.gauge.specs.Update.{shortNorm, reflectionOf, ifFinite, throughSubgroups, updateLinkOf, updateOf, UpdateIsLocal, UpdateReadsNoOther}
 use Rattle.gauge.proofs.Locality.{staple-is-local, none-around}

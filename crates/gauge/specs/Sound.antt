@@ -7,9 +7,9 @@ use lib.Ieee.{Float, le, neg}
 use lib.Ieee.Scale.{finite}
 use lib.ListN.{length, take, drop}
 use Rattle.loops.specs.Loops.{allBelow}
-use Rattle.mat.specs.declared.C64.{C64}
+use Rattle.complex.specs.declared.C64.{C64}
 use Rattle.mat.specs.declared.Su3.{Su3}
-use Rattle.mat.specs.Rounded.{fone}
+use Rattle.complex.specs.Rounded.{fone}
 use Rattle.mat.specs.Matrix.{ent}
 use Rattle.geometry.specs.Radix.{volume}
 use Rattle.geometry.specs.Range.{range}

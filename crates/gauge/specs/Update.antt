@@ -5,13 +5,13 @@ use mathlib.Core.List.{List, [], _∷_}
 use mathlib.Core.Path.{_≡_}
 use lib.Ieee.{Float, binary64, div, lt, ofBits}
 use Rattle.mat.specs.declared.Su3.{Su3}
-use Rattle.mat.specs.declared.Mat2.{Mat2}
-use Rattle.mat.specs.declared.Quat.{Quat}
+use Rattle.quat.specs.declared.Mat2.{Mat2}
+use Rattle.quat.specs.declared.Quat.{Quat}
 use Rattle.mat.specs.Matrix.{zeroOf, finiteMatrix}
 use Rattle.mat.specs.Product.{mulOf}
 use Rattle.mat.specs.Unitary.{reunitarizeOf}
-use Rattle.mat.specs.Quaternion.{projectOf, quatNorm, quatConj, quatMul, toMat}
-use Rattle.mat.specs.Subgroup.{subBlock, leftMulSub}
+use Rattle.quat.specs.Quaternion.{projectOf, quatNorm, quatConj, quatMul, toMat}
+use Rattle.quat.specs.Subgroup.{subBlock, leftMulSub}
 use Rattle.geometry.specs.Radix.{volume}
 use Rattle.geometry.specs.Shape.{Shape}
 use Rattle.geometry.specs.Steps.{parityOf}

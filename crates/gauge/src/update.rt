@@ -1,18 +1,18 @@
 use crate::Stuck;
 use crate::Updated;
 use crate::staples::staple;
-use mat::C64;
-use mat::Mat2;
-use mat::Quat;
-use mat::Row;
+use complex::C64;
+use complex::Row;
 use mat::Su3;
+use quat::Mat2;
+use quat::Quat;
 ghost use mathlib.Core.Path.{_≡_};
 ghost use mathlib.Core.List.{[], _∷_};
-ghost use Rattle.mat.specs.declared.C64.{C64};
+ghost use Rattle.complex.specs.declared.C64.{C64};
 ghost use Rattle.mat.specs.declared.Su3.{Su3};
 ghost use Rattle.mat.specs.Unitary.{ofRows};
-ghost use Rattle.mat.specs.Quaternion.{projectOf, quatNorm};
-ghost use Rattle.mat.specs.Subgroup.{subBlock};
+ghost use Rattle.quat.specs.Quaternion.{projectOf, quatNorm};
+ghost use Rattle.quat.specs.Subgroup.{subBlock};
 ghost use Rattle.gauge.specs.Field.{linkOf, Link};
 ghost use Rattle.gauge.specs.Update.{isStuck, stuckLink, isShort, reflectionOf, ifFinite, throughSubgroups, updateLinkOf, updateOf};
 

@@ -1,6 +1,6 @@
 use mathlib.Core.Path.{_≡_, sym, _∙_}
 use lib.ListN.{length, length-map}
-use Rattle.mat.proofs.C64.{the-type}
+use Rattle.complex.proofs.C64.{the-type}
 use Rattle.mat.specs.Unitary.{rowsOf}
 use Rattle.gauge.proofs.ByRows.{by-rows}
 use borrow.Author.Needs.{needs}
