@@ -9,9 +9,9 @@ use lib.ListN.{getD, set}
 use lib.Ieee.{Float}
 use Rattle.loops.specs.Loops.{foldTo}
 use Rattle.loops.proofs.Laws.{each-all}
-use Rattle.mat.specs.declared.C64.{C64}
+use Rattle.complex.specs.declared.C64.{C64}
 use Rattle.mat.specs.declared.Su3.{Su3}
-use Rattle.mat.specs.Complex.{czero, cone, cnan, conjOf, cscale, cadd, csub, cmul, finiteEntry}
+use Rattle.complex.specs.Complex.{czero, cone, cnan, conjOf, cscale, cadd, csub, cmul, finiteEntry}
 use Rattle.mat.specs.Matrix.{at, ent, tabulate, each, zeroOf, identityOf, daggerOf, scaleOf, addOf, subOf, traceOf, reTr, finiteMatrix}
 use Rattle.mat.specs.Product.{sum3, rowCol, rowRow, colCol, mulOf, mulDagOf, dagMulOf}
 use Rattle.mat.specs.Traceless.{antiOf, subDiag, tracelessOf}

@@ -17,7 +17,7 @@ use lib.Ieee.Order.{drop, kept}
 use lib.Ieee.Scale.{finite}
 use borrow.Author.Tests.{ltb-true, eqb-true}
 use Rattle.loops.specs.Loops.{foldTo}
-use Rattle.mat.specs.Rounded.{_⊞_, _⊟_, _⊠_, fzero, fone, fhalf, fthree, inverse}
+use Rattle.complex.specs.Rounded.{_⊞_, _⊟_, _⊠_, fzero, fone, fhalf, fthree, inverse}
 use Rattle.bounds.specs.Magnitude.{Below, Magnitude, withinTwo}
 
 -- ## Rounding: 2ᵏ is a value of the format, and rounding keeps the order

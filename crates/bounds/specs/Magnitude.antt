@@ -5,7 +5,7 @@ use mathlib.Core.List.{List}
 use lib.Ieee.{Float, nan, inf, fin, binary64, up, down, neg, le, ofBits}
 use lib.ListN.{length, getD}
 use Rattle.loops.specs.Loops.{allBelow}
-use Rattle.mat.specs.declared.C64.{C64}
+use Rattle.complex.specs.declared.C64.{C64}
 use Rattle.mat.specs.declared.Su3.{Su3}
 use Rattle.mat.specs.Matrix.{ent}
 

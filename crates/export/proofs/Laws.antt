@@ -15,8 +15,8 @@ use Rattle.geometry.specs.Radix.{volume}
 use Rattle.geometry.specs.Shape.{fitsOf}
 use Rattle.geometry.proofs.Shape.{fits-shape, volume-high}
 use Rattle.links.specs.Field.{Field}
-use Rattle.gauge.specs.Sound.{soundLink, unsoundLinks}
-use Rattle.gauge.proofs.Unsound.{failing-few}
+use Rattle.sound.specs.Sound.{soundLink, unsoundLinks}
+use Rattle.sound.proofs.Unsound.{failing-few}
 use Rattle.lattice.specs.Situations.{badExtents}
 use Rattle.lattice.specs.Rows.{checkRows}
 use Rattle.sweep.specs.declared.Job.{Job}

@@ -5,13 +5,13 @@ use mathlib.Core.List.{List, [], _∷_}
 use lib.ListN.{getD}
 use lib.Ieee.{Float, nan}
 use Rattle.rows.specs.Rows.{ifAccepted}
-use Rattle.mat.specs.declared.C64.{C64}
+use Rattle.complex.specs.declared.C64.{C64}
 use Rattle.mat.specs.declared.Su3.{Su3}
-use Rattle.mat.specs.declared.Mat2.{Mat2}
-use Rattle.mat.specs.declared.Quat.{Quat}
+use Rattle.quat.specs.declared.Mat2.{Mat2}
+use Rattle.quat.specs.declared.Quat.{Quat}
 use Rattle.mat.specs.declared.MatrixAnswer.{MatrixAnswer}
-use Rattle.mat.specs.declared.BlockAnswer.{BlockAnswer}
-use Rattle.mat.specs.Rounded.{fzero}
+use Rattle.quat.specs.declared.BlockAnswer.{BlockAnswer}
+use Rattle.complex.specs.Rounded.{fzero}
 use Rattle.mat.specs.Matrix.{ent}
 use Rattle.links.specs.Store.{cellAt, matrixAt}
 use Rattle.lattice.specs.declared.Plan.{Plan}

@@ -7,7 +7,7 @@ use lib.ListN.{length}
 use Rattle.rows.specs.Rows.{ifAccepted}
 use Rattle.gauge.specs.Field.{linkOf}
 use Rattle.gauge.specs.Plaquette.{averageOf, actionOf}
-use Rattle.gauge.specs.Sound.{unsoundLinks, Listed}
+use Rattle.sound.specs.Sound.{unsoundLinks, Listed}
 use Rattle.lattice.specs.Answers.{averageRow, actionRow}
 use Rattle.lattice.specs.Cold.{coldRow, coldLinks}
 use Rattle.lattice.specs.Check.{checkRow}

@@ -1,7 +1,8 @@
 ghost use mathlib.Core.Path.{_≡_};
-ghost use Rattle.mat.specs.Quaternion.{projectOf, quatNorm, quatConj, quatMul, toMat};
-ghost use Rattle.mat.specs.Subgroup.{subgroupRow, subBlock, leftMulSub};
-ghost use Rattle.mat.specs.Answers.{blockAnswer, matrixAnswer};
+ghost use Rattle.quat.specs.Quaternion.{projectOf, quatNorm, quatConj, quatMul, toMat};
+ghost use Rattle.quat.specs.Subgroup.{subgroupRow, subBlock, leftMulSub};
+ghost use Rattle.mat.specs.Answers.{matrixAnswer};
+ghost use Rattle.quat.specs.Answers.{blockAnswer};
 ghost use Rattle.export.specs.Face.{matrixIn, blockIn, quatIn, blockNumbers, quatNumbers, MatrixGiven, BlockGiven};
 use crate::arrays::block;
 use crate::arrays::block_numbers;
@@ -9,13 +10,13 @@ use crate::arrays::matrix;
 use crate::arrays::matrix_numbers;
 use crate::arrays::quat;
 use crate::arrays::quat_numbers;
-use mat::Quat;
+use quat::Quat;
 
 #[no_mangle]
 pub extern "C" fn jj_sub_block(a: &[f64; 18], subgroup: usize, out: &mut [f64; 8]) -> u32
     ensures { λ r. ⌜ BlockGiven (blockAnswer (subgroupRow subgroup) (subBlock (matrixIn (now (a .entry))) subgroup)) r (now (out .exit)) ⌝ }
 {
-    let answer = mat::sub_block(matrix(*a), subgroup);
+    let answer = quat::sub_block(matrix(*a), subgroup);
     *out = block_numbers(answer.block);
     answer.refusal
 }
@@ -30,7 +31,7 @@ pub extern "C" fn jj_left_mul_sub(
     ensures { λ r. ⌜ MatrixGiven (matrixAnswer (subgroupRow subgroup) (leftMulSub (matrixIn (now (a .entry))) subgroup (blockIn (now (x .entry))))) r (now (out .exit)) ⌝ }
 {
     let a = matrix(*a);
-    let answer = mat::left_mul_sub(a, subgroup, block(*x));
+    let answer = quat::left_mul_sub(a, subgroup, block(*x));
     *out = matrix_numbers(answer.matrix);
     answer.refusal
 }

@@ -14,9 +14,9 @@ use lib.Seq.{ext-getD}
 use borrow.Author.Tests.{eq-eqb, ne-eqb}
 use Rattle.loops.specs.Loops.{fill, allBelow}
 use Rattle.loops.proofs.Laws.{length-fill, fill-at, all-each, each-all}
-use Rattle.mat.specs.declared.C64.{C64}
+use Rattle.complex.specs.declared.C64.{C64}
 use Rattle.mat.specs.declared.Su3.{Su3}
-use Rattle.mat.specs.Complex.{finiteEntry}
+use Rattle.complex.specs.Complex.{finiteEntry}
 use Rattle.mat.specs.Matrix.{ent, finiteMatrix}
 use Rattle.geometry.specs.Range.{range}
 use Rattle.geometry.specs.Radix.{volume}

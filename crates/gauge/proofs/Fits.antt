@@ -11,7 +11,7 @@ use Rattle.geometry.proofs.Neighbour.{fwd-below, bwd-below, near-up, up-down}
 use Rattle.links.specs.Field.{Sized}
 use Rattle.gauge.specs.Field.{Holds}
 use Rattle.links.specs.Field.{Field}
-use Rattle.mat.specs.Rounded.{_⊞_, fzero}
+use Rattle.complex.specs.Rounded.{_⊞_, fzero}
 use Rattle.mat.specs.Matrix.{reTr}
 use Rattle.gauge.specs.Plaquette.{Corners, plaquetteAt, plaquetteOf, planesSum}
 use Rattle.gauge.specs.Staple.{StapleSites}

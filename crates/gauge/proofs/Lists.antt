@@ -11,7 +11,7 @@ use lib.Ieee.{Float, nan}
 use lib.ListN.{length, getD}
 use lib.Seq.{ext-getD}
 use borrow.Author.Tests.{eq-eqb, ne-eqb}
-use Rattle.mat.specs.declared.C64.{C64}
+use Rattle.complex.specs.declared.C64.{C64}
 use Rattle.mat.specs.declared.Su3.{Su3}
 use Rattle.mat.specs.Matrix.{ent}
 use Rattle.geometry.specs.Radix.{volume}

@@ -3,9 +3,9 @@ use Prim.Native.Nat.{ℕ, _+_, _<_}
 use mathlib.Core.Path.{_≡_}
 use Rattle.loops.specs.Loops.{foldTo}
 use Rattle.loops.proofs.Laws.{fold-next}
-use Rattle.mat.specs.declared.C64.{C64}
+use Rattle.complex.specs.declared.C64.{C64}
 use Rattle.mat.specs.declared.Su3.{Su3}
-use Rattle.mat.specs.Complex.{cadd, cmul, conjOf, czero}
+use Rattle.complex.specs.Complex.{cadd, cmul, conjOf, czero}
 use Rattle.mat.specs.Matrix.{at}
 use Rattle.mat.specs.Product.{rowCol, rowRow, mulOf}
 use Rattle.mat.proofs.Entries.{mul-at}

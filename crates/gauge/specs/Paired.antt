@@ -1,6 +1,6 @@
 -- A matrix with its entries in pairs, as the code sums staples: two complex numbers side by side, real parts first.
 use mathlib.Core.List.{[], _∷_}
-use Rattle.mat.specs.declared.C64.{C64}
+use Rattle.complex.specs.declared.C64.{C64}
 use Rattle.mat.specs.declared.Su3.{Su3}
 use Rattle.gauge.specs.declared.paired.Pair.{Pair}
 use Rattle.gauge.specs.declared.paired.Paired.{Paired}

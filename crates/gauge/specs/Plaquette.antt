@@ -4,7 +4,7 @@ use mathlib.Core.List.{List}
 use lib.Ieee.{Float, binary64, add, div, ofBits}
 use Rattle.loops.specs.Loops.{foldTo}
 use Rattle.mat.specs.declared.Su3.{Su3}
-use Rattle.mat.specs.Rounded.{_⊞_, _⊟_, _⊠_, fzero, fone, fthree, asFloat}
+use Rattle.complex.specs.Rounded.{_⊞_, _⊟_, _⊠_, fzero, fone, fthree, asFloat}
 use Rattle.mat.specs.Matrix.{reTr}
 use Rattle.mat.specs.Product.{rowRow, mulOf, mulDagOf}
 use Rattle.geometry.specs.Radix.{volume}

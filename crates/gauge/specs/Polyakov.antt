@@ -3,10 +3,10 @@ use Prim.Native.Nat.{ℕ, zero, suc}
 use mathlib.Core.List.{List, _∷_}
 use lib.ListN.{getD, drop}
 use Rattle.loops.specs.Loops.{foldTo}
-use Rattle.mat.specs.declared.C64.{C64}
+use Rattle.complex.specs.declared.C64.{C64}
 use Rattle.mat.specs.declared.Su3.{Su3}
-use Rattle.mat.specs.Rounded.{_⊠_, fthree, inverse, asFloat}
-use Rattle.mat.specs.Complex.{czero, cadd, cscale}
+use Rattle.complex.specs.Rounded.{_⊠_, fthree, inverse, asFloat}
+use Rattle.complex.specs.Complex.{czero, cadd, cscale}
 use Rattle.mat.specs.Matrix.{identityOf, traceOf}
 use Rattle.mat.specs.Product.{mulOf}
 use Rattle.geometry.specs.Radix.{volume, coordsOf, indexOf}

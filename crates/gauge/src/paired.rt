@@ -1,7 +1,7 @@
-use mat::C64;
+use complex::C64;
 use mat::Su3;
 ghost use mathlib.Core.Path.{_≡_};
-ghost use Rattle.mat.specs.Complex.{czero, cadd};
+ghost use Rattle.complex.specs.Complex.{czero, cadd};
 ghost use Rattle.mat.specs.Matrix.{zeroOf, addOf};
 ghost use Rattle.gauge.specs.Paired.{pairOf, firstOf, secondOf, matrixOf};
 

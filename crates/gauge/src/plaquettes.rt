@@ -1,8 +1,8 @@
-use mat::C64;
+use complex::C64;
 use mat::Su3;
 ghost use mathlib.Core.Path.{_≡_};
 ghost use Prim.Native.Nat.{_<_};
-ghost use Rattle.mat.specs.Rounded.{_⊞_};
+ghost use Rattle.complex.specs.Rounded.{_⊞_};
 ghost use Rattle.mat.specs.Matrix.{reTr};
 ghost use Rattle.geometry.specs.Radix.{volume};
 ghost use Rattle.geometry.specs.Steps.{nearOf};

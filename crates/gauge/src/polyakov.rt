@@ -1,4 +1,4 @@
-use mat::C64;
+use complex::C64;
 use mat::Su3;
 ghost use mathlib.Core.Path.{_≡_};
 ghost use Prim.Native.Nat.{_*_, _<_};

@@ -8,13 +8,13 @@ use lib.Dec.{ltb, eqb}
 use lib.ListN.{length, getD}
 use borrow.Author.Tests.{lt-ltb, le-ltb, eq-eqb, ne-eqb, ltb-true, ltb-false, not-false}
 use Rattle.loops.proofs.Laws.{all-each}
-use Rattle.mat.specs.declared.C64.{C64}
+use Rattle.complex.specs.declared.C64.{C64}
 use Rattle.mat.specs.declared.Su3.{Su3}
 use Rattle.geometry.specs.Radix.{volume, Within}
 use Rattle.geometry.specs.Shape.{fitsOf}
 use Rattle.rows.proofs.Laws.{if-refused}
-use Rattle.mat.specs.Rounded.{fzero}
-use Rattle.mat.specs.Complex.{czero}
+use Rattle.complex.specs.Rounded.{fzero}
+use Rattle.complex.specs.Complex.{czero}
 use Rattle.mat.specs.Matrix.{zeroOf}
 use Rattle.mat.specs.Answers.{matrixAnswer}
 use Rattle.lattice.specs.Answers.{loopAnswer}

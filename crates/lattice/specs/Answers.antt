@@ -6,9 +6,9 @@ use lib.ListN.{length}
 use Rattle.rows.specs.declared.Number.{Number}
 use Rattle.rows.specs.Rows.{firstRow, ifAccepted, finally}
 use Rattle.rows.specs.Answers.{IsNumber}
-use Rattle.mat.specs.declared.C64.{C64}
+use Rattle.complex.specs.declared.C64.{C64}
 use Rattle.mat.specs.declared.MatrixAnswer.{MatrixAnswer}
-use Rattle.mat.specs.Complex.{czero}
+use Rattle.complex.specs.Complex.{czero}
 use Rattle.mat.specs.Answers.{matrixAnswer}
 use Rattle.geometry.specs.Radix.{coordsOf}
 use Rattle.gauge.specs.Field.{linkOf}

@@ -8,7 +8,7 @@ use Rattle.rows.specs.declared.Count.{Count}
 use Rattle.rows.specs.Rows.{firstRow}
 use Rattle.rows.specs.Answers.{IsCount}
 use Rattle.gauge.specs.Field.{linkOf}
-use Rattle.gauge.specs.Sound.{unsoundLinks, Listed}
+use Rattle.sound.specs.Sound.{unsoundLinks, Listed}
 use Rattle.lattice.specs.Rows.{checkRows}
 
 abbrev pub checkRow : List ℕ → List Float → List ℕ → ℕ

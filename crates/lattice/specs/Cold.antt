@@ -5,7 +5,7 @@ use mathlib.Core.Path.{_≡_}
 use lib.Ieee.{Float}
 use lib.ListN.{length}
 use Rattle.rows.specs.Rows.{firstRow, ifAccepted}
-use Rattle.mat.specs.Rounded.{fzero}
+use Rattle.complex.specs.Rounded.{fzero}
 use Rattle.mat.specs.Matrix.{identityOf}
 use Rattle.links.specs.Store.{numbersOf}
 use Rattle.geometry.specs.Radix.{volume}

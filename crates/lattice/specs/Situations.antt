@@ -7,10 +7,10 @@ use lib.Ieee.{Float, binary64, ofBits, lt}
 use lib.Ieee.Scale.{finite}
 use lib.ListN.{getD}
 use Rattle.loops.specs.Loops.{allBelow}
-use Rattle.mat.specs.declared.C64.{C64}
+use Rattle.complex.specs.declared.C64.{C64}
 use Rattle.mat.specs.declared.Su3.{Su3}
-use Rattle.mat.specs.Rounded.{fzero}
-use Rattle.mat.specs.Complex.{finiteEntry}
+use Rattle.complex.specs.Rounded.{fzero}
+use Rattle.complex.specs.Complex.{finiteEntry}
 use Rattle.mat.specs.Matrix.{finiteMatrix}
 use Rattle.geometry.specs.Radix.{volume}
 use Rattle.geometry.specs.Shape.{fitsOf}

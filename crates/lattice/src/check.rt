@@ -11,5 +11,5 @@ pub fn link_check(extents: [usize; 4], links: &[f64], found: &mut [u32]) -> Coun
     if row != 0 {
         return Count::Refused(row);
     }
-    Count::Value(gauge::list_unsound(links, extents, found))
+    Count::Value(sound::list_unsound(links, extents, found))
 }

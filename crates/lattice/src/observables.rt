@@ -4,7 +4,7 @@ use crate::judges::field_row;
 use crate::judges::link_row;
 use crate::judges::plan_row;
 use crate::judges::plane_row;
-use mat::C64;
+use complex::C64;
 use mat::MatrixAnswer;
 use mat::Su3;
 use rows::Number;

@@ -9,9 +9,9 @@ use lib.ListN.{length, getD, set, length-set}
 use lib.Seq.{getD-set-same, getD-set-other, ext-getD}
 use lib.Ieee.{Float, nan}
 use Rattle.loops.specs.Loops.{iterTo}
-use Rattle.mat.specs.declared.C64.{C64}
+use Rattle.complex.specs.declared.C64.{C64}
 use Rattle.mat.specs.declared.Su3.{Su3}
-use Rattle.mat.specs.Complex.{cnan}
+use Rattle.complex.specs.Complex.{cnan}
 use Rattle.mat.specs.Matrix.{ent}
 use Rattle.links.specs.Store.{cellAt, putCell, matrixAt, withMatrix}
 use Rattle.links.specs.Field.{linkNumber, placeOf, Sized}

@@ -2,7 +2,7 @@
 // has where the link of a direction at a site begins; links follow each other by eighteen numbers.
 mod products;
 
-use mat::C64;
+use complex::C64;
 use mat::Su3;
 pub use products::dag_mul_dag_at;
 pub use products::mul_at;

@@ -4,9 +4,9 @@ use mathlib.Core.List.{List, [], _∷_}
 use mathlib.Core.Path.{_≡_, refl}
 use native.Mathlib.Omega.{arith}
 use lib.ListN.{length}
-use Rattle.mat.specs.declared.C64.{C64}
+use Rattle.complex.specs.declared.C64.{C64}
 use Rattle.mat.specs.declared.Su3.{Su3}
-use Rattle.mat.specs.Complex.{conjOf}
+use Rattle.complex.specs.Complex.{conjOf}
 use Rattle.mat.specs.Matrix.{at, tabulate, daggerOf}
 use Rattle.mat.specs.Product.{rowCol, mulOf}
 use Rattle.mat.specs.Unitary.{rowOf, ofRows}

@@ -1,25 +1,20 @@
--- What the loops over a matrix leave, turn by turn, and the rows of a subgroup.
-use Prim.Native.Nat.{ℕ, zero, suc, _+_, _*_, _/_, _%_, _<_, _≤_}
-use borrow.Author.Tests.{lt-ltb, le-ltb}
-use mathlib.Core.List.{List, [], _∷_}
+-- What the loops over a matrix leave, turn by turn, and answers.
+use Prim.Native.Nat.{ℕ, suc, _+_, _*_, _/_, _%_, _<_}
+use mathlib.Core.List.{List}
 use mathlib.Core.Path.{_≡_, _∙_, refl}
 use native.Mathlib.Numerals.{add-one}
 use native.Mathlib.Omega.{arith}
-use lib.ListN.{getD, set}
+use lib.ListN.{set}
 use Rattle.loops.specs.Loops.{fill}
 use Rattle.loops.proofs.Laws.{fill-next}
-use Rattle.rows.specs.Rows.{firstRow, ifAccepted}
-use Rattle.rows.proofs.Laws.{row-holds, row-passes}
-use Rattle.mat.specs.declared.C64.{C64}
+use Rattle.rows.specs.Rows.{ifAccepted}
+use Rattle.complex.specs.declared.C64.{C64}
+use Rattle.complex.specs.Rounded.{inverse, asFloat}
 use Rattle.mat.specs.declared.Su3.{Su3}
-use Rattle.mat.specs.declared.Mat2.{Mat2}
-use Rattle.mat.specs.declared.Subgroup.{Subgroup}
-use Rattle.mat.specs.Rounded.{inverse, asFloat}
 use Rattle.mat.specs.Matrix.{tabulate, each, zeros, zeroOf, identityOf, scaleOf, addOf}
 use Rattle.mat.specs.Product.{mulOf}
 use Rattle.mat.specs.Exponential.{termOf, seriesOf}
-use Rattle.mat.specs.Subgroup.{subgroupOf, subgroupRow}
-use Rattle.mat.specs.Answers.{matrixAnswer, zeroBlock, blockAnswer}
+use Rattle.mat.specs.Answers.{matrixAnswer}
 
 -- ## a matrix filled entry by entry
 pub fill-each : (f : ℕ → C64) {p : List C64} (n : ℕ) → n ≡ 9 → p ≡ fill f zeros n → record { m = p } ≡ each f
@@ -66,35 +61,6 @@ series-next q n a b d = rw (d, b, a, add-one)
 pub series-done : (q : Su3) {m n : ℕ} {s : Su3} → m ≡ n → s ≡ seriesOf q m → s ≡ seriesOf q n
 series-done q h e = rw (e, h)
 
--- ## the rows of a subgroup
-pub pair-is : (g : ℕ) → g < 3 → record { i = g / 2; j = (g + 3) / 2 } ≡ subgroupOf g
-unfolding subgroupOf
-pair-is zero h = refl
-pair-is (suc zero) h = refl
-pair-is (suc (suc zero)) h = refl
-pair-is (suc (suc (suc g))) h = absurd (omega arith)
-
-pub listed-is : (g : ℕ) (d : Subgroup) → g < 3 → getD (record { i = 0; j = 1 } ∷ record { i = 0; j = 2 } ∷ record { i = 1; j = 2 } ∷ []) g d ≡ subgroupOf g
-unfolding subgroupOf
-listed-is zero d h = refl
-listed-is (suc zero) d h = refl
-listed-is (suc (suc zero)) d h = refl
-listed-is (suc (suc (suc g))) d h = absurd (omega arith)
-
-pub pair-rows : (g : ℕ) → (subgroupOf g .i < 3) × (subgroupOf g .j < 3)
-unfolding subgroupOf
-pair-rows zero = (omega arith, omega arith)
-pair-rows (suc zero) = (omega arith, omega arith)
-pair-rows (suc (suc g)) = (omega arith, omega arith)
-
-pub subgroup-refused : (g : ℕ) → 2 < g → subgroupRow g ≡ 5
-unfolding subgroupRow
-subgroup-refused g h = row-holds 5 [] (lt-ltb 2 g h)
-
-pub subgroup-accepted : (g : ℕ) → g ≤ 2 → subgroupRow g ≡ 0
-unfolding subgroupRow firstRow
-subgroup-accepted g h = row-passes 5 [] (le-ltb 2 g h)
-
 -- ## answers
 pub matrix-refused : {row : ℕ} (r : ℕ) (u : Su3) → row ≡ suc r → record { refusal = suc r; matrix = zeroOf } ≡ matrixAnswer row u
 unfolding matrixAnswer ifAccepted
@@ -103,11 +69,3 @@ matrix-refused r u h = rw h
 pub matrix-accepted : {row : ℕ} {u v : Su3} → row ≡ 0 → v ≡ u → record { refusal = 0; matrix = v } ≡ matrixAnswer row u
 unfolding matrixAnswer ifAccepted
 matrix-accepted h e = rw (h, e)
-
-pub block-refused : {row : ℕ} (r : ℕ) (b : Mat2) → row ≡ suc r → record { refusal = suc r; block = zeroBlock } ≡ blockAnswer row b
-unfolding blockAnswer ifAccepted
-block-refused r b h = rw h
-
-pub block-accepted : {row : ℕ} {a b : Mat2} → row ≡ 0 → a ≡ b → record { refusal = 0; block = a } ≡ blockAnswer row b
-unfolding blockAnswer ifAccepted
-block-accepted h e = rw (h, e)

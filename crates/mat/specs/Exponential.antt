@@ -1,7 +1,7 @@
 -- The exponential of an anti-Hermitian traceless matrix: a sum of its series, projected onto SU(3).
 use Prim.Native.Nat.{ℕ, zero, suc}
 use Rattle.mat.specs.declared.Su3.{Su3}
-use Rattle.mat.specs.Rounded.{inverse, asFloat}
+use Rattle.complex.specs.Rounded.{inverse, asFloat}
 use Rattle.mat.specs.Matrix.{identityOf, scaleOf, addOf}
 use Rattle.mat.specs.Product.{mulOf}
 use Rattle.mat.specs.Unitary.{reunitarizeOf}

@@ -5,10 +5,10 @@ use mathlib.Core.List.{List, [], _∷_}
 use lib.ListN.{getD}
 use lib.Ieee.{Float}
 use Rattle.loops.specs.Loops.{foldTo, allBelow}
-use Rattle.mat.specs.declared.C64.{C64}
+use Rattle.complex.specs.declared.C64.{C64}
 use Rattle.mat.specs.declared.Su3.{Su3}
-use Rattle.mat.specs.Rounded.{_⊞_, fzero}
-use Rattle.mat.specs.Complex.{czero, cone, cnan, conjOf, normSqr, cscale, cadd, csub, cmul, finiteEntry, minor}
+use Rattle.complex.specs.Rounded.{_⊞_, fzero}
+use Rattle.complex.specs.Complex.{czero, cone, cnan, conjOf, normSqr, cscale, cadd, csub, cmul, finiteEntry, minor}
 
 -- ## Reading and making
 

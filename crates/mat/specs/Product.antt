@@ -1,9 +1,9 @@
 -- The matrix products a·b, a·b† and a†·b: each entry is the sum from +0 of three products, in order.
 use Prim.Native.Nat.{ℕ}
 use Rattle.loops.specs.Loops.{foldTo}
-use Rattle.mat.specs.declared.C64.{C64}
+use Rattle.complex.specs.declared.C64.{C64}
 use Rattle.mat.specs.declared.Su3.{Su3}
-use Rattle.mat.specs.Complex.{czero, conjOf, cadd, cmul}
+use Rattle.complex.specs.Complex.{czero, conjOf, cadd, cmul}
 use Rattle.mat.specs.Matrix.{at, tabulate}
 
 -- ((0 + f 0) + f 1) + f 2

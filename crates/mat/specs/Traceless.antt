@@ -1,9 +1,9 @@
 -- The anti-Hermitian traceless part (M − M†)/2 − Tr(M − M†)/6 · 1.
 use lib.ListN.{set}
-use Rattle.mat.specs.declared.C64.{C64}
+use Rattle.complex.specs.declared.C64.{C64}
 use Rattle.mat.specs.declared.Su3.{Su3}
-use Rattle.mat.specs.Rounded.{fhalf, fthree, inverse}
-use Rattle.mat.specs.Complex.{cscale, csub}
+use Rattle.complex.specs.Rounded.{fhalf, fthree, inverse}
+use Rattle.complex.specs.Complex.{cscale, csub}
 use Rattle.mat.specs.Matrix.{at, daggerOf, scaleOf, subOf, traceOf}
 
 -- (M − M†)/2

@@ -1,11 +1,11 @@
 -- A matrix by its rows, and its projection onto SU(3) by Gram and Schmidt.
 use Prim.Native.Nat.{ℕ, _+_, _*_}
 use mathlib.Core.List.{[], _∷_}
-use Rattle.mat.specs.declared.Row.{Row}
+use Rattle.complex.specs.declared.Row.{Row}
 use Rattle.mat.specs.declared.Rows.{Rows}
 use Rattle.mat.specs.declared.Su3.{Su3}
 use Rattle.mat.specs.Matrix.{ent}
-use Rattle.mat.specs.Row.{conjDot, rowSubMul, unitRow, crossConj}
+use Rattle.complex.specs.Row.{conjDot, rowSubMul, unitRow, crossConj}
 
 -- row i
 unfoldable pub rowOf : Su3 → ℕ → Row

@@ -1,35 +1,18 @@
-// Complex numbers, complex 3×3 matrices and quaternions, by value: every operation rounds once, in
-// the order that its definition in specs/ has.
-mod complex;
+// Complex 3×3 matrices, by value: every operation rounds once, in the order that its definition in
+// specs/ has.
 mod exponential;
 mod matrix;
 mod product;
-mod quaternion;
-mod row_vector;
-mod subgroups;
 mod traceless;
 mod unitary;
 
-pub use subgroups::SUBGROUPS;
-pub use subgroups::left_mul_sub;
-pub use subgroups::sub_block;
-
-pub struct C64 {
-    pub re: f64,
-    pub im: f64,
-}
+use complex::C64;
+use complex::Row;
 
 // Any complex 3×3 matrix, row by row, and not only one of SU(3): a staple sum or an average of clover
 // leaves leaves the group.
 pub struct Su3 {
     pub m: [C64; 9],
-}
-
-// A row of a 3×3 matrix.
-pub struct Row {
-    pub c0: C64,
-    pub c1: C64,
-    pub c2: C64,
 }
 
 // The rows of a 3×3 matrix.
@@ -39,37 +22,8 @@ pub struct Rows {
     pub r2: Row,
 }
 
-// A complex 2×2 matrix.
-pub struct Mat2 {
-    pub m00: C64,
-    pub m01: C64,
-    pub m10: C64,
-    pub m11: C64,
-}
-
-// `a0 + i(a1 σ1 + a2 σ2 + a3 σ3)`, which is the matrix `[[a0 + i a3, a2 + i a1], [−a2 + i a1, a0 − i a3]]`:
-// in SU(2) where its norm is 1.
-pub struct Quat {
-    pub a0: f64,
-    pub a1: f64,
-    pub a2: f64,
-    pub a3: f64,
-}
-
-// The rows, and columns, i < j of a 3×3 matrix that an SU(2) subgroup acts on.
-pub struct Subgroup {
-    pub i: usize,
-    pub j: usize,
-}
-
 // A matrix, and 0; or the row that refuses the call, and zeros.
 pub struct MatrixAnswer {
     pub refusal: u32,
     pub matrix: Su3,
-}
-
-// A 2×2 block, and 0; or the row that refuses the call, and zeros.
-pub struct BlockAnswer {
-    pub refusal: u32,
-    pub block: Mat2,
 }

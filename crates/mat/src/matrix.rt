@@ -1,8 +1,8 @@
 ghost use mathlib.Core.Path.{_≡_};
 ghost use Rattle.mat.specs.Matrix.{daggerOf, traceOf, reTr, scaleOf, addOf, subOf, distSqr, detOf, finiteMatrix};
-use crate::C64;
 use crate::Su3;
-use crate::complex::minor;
+use complex::C64;
+use complex::minor;
 
 impl Su3 {
     pub const ZERO: Self = Self { m: [C64::ZERO; 9] };

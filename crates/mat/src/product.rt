@@ -1,8 +1,8 @@
 ghost use mathlib.Core.Path.{_≡_};
 ghost use Prim.Native.Nat.{_<_};
 ghost use Rattle.mat.specs.Product.{rowCol, rowRow, colCol, mulOf, mulDagOf, dagMulOf};
-use crate::C64;
 use crate::Su3;
+use complex::C64;
 
 // Entry (i, j) of a·b.
 fn row_col(a: Su3, b: Su3, i: usize, j: usize) -> C64

@@ -1,7 +1,7 @@
 ghost use mathlib.Core.Path.{_≡_};
 ghost use Rattle.mat.specs.Traceless.{subDiag, tracelessOf};
-use crate::C64;
 use crate::Su3;
+use complex::C64;
 
 impl Su3 {
     fn sub_diag(self, t: C64) -> Self

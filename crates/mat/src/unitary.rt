@@ -1,8 +1,8 @@
 ghost use mathlib.Core.Path.{_≡_};
 ghost use Rattle.mat.specs.Unitary.{rowsOf, ofRows, unitaryOf, reunitarizeOf};
-use crate::Row;
 use crate::Rows;
 use crate::Su3;
+use complex::Row;
 
 impl Su3 {
     pub fn rows(self) -> Rows

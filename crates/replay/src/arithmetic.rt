@@ -5,8 +5,8 @@ use crate::inputs::block;
 use crate::inputs::pair_at;
 use crate::inputs::quaternion;
 use crate::print::hash_line;
-use mat::Quat;
 use mat::Su3;
+use quat::Quat;
 
 // The calls have the numbers of their lines, from 0. These seven answer a matrix.
 fn combined(call: u32, p: Pair) -> Su3 {
@@ -43,10 +43,10 @@ fn derived(call: u32, h: Fnv, p: Pair) -> Fnv {
 fn subgroups(call: u32, h: Fnv, p: Pair) -> Fnv {
     let a = p.a;
     if call == 14 {
-        let r = mat::sub_block(a, p.subgroup);
+        let r = quat::sub_block(a, p.subgroup);
         return h.short(r.refusal).block(r.block);
     }
-    let r = mat::left_mul_sub(a, p.subgroup, block(p.b));
+    let r = quat::left_mul_sub(a, p.subgroup, block(p.b));
     h.short(r.refusal).matrix(r.matrix)
 }
 

@@ -1,7 +1,7 @@
-use mat::C64;
-use mat::Mat2;
-use mat::Quat;
+use complex::C64;
 use mat::Su3;
+use quat::Mat2;
+use quat::Quat;
 
 // The pattern of an f64, and of every NaN the same one.
 pub fn pattern(x: f64) -> u64 {

@@ -1,7 +1,7 @@
-use mat::C64;
-use mat::Mat2;
-use mat::Quat;
+use complex::C64;
 use mat::Su3;
+use quat::Mat2;
+use quat::Quat;
 use rng::Rng;
 
 const SEED: u64 = 20261115;

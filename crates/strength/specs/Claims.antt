@@ -2,7 +2,7 @@
 use Prim.Native.Nat.{ℕ, suc, _<_}
 use mathlib.Core.List.{List}
 use mathlib.Core.Path.{_≡_}
-use Rattle.mat.specs.Rounded.{_⊞_, fzero}
+use Rattle.complex.specs.Rounded.{_⊞_, fzero}
 use Rattle.geometry.specs.Steps.{fwdOf, bwdOf}
 use Rattle.links.specs.Field.{Field}
 use Rattle.strength.specs.declared.Density.{Density}

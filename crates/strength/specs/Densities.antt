@@ -4,7 +4,7 @@ use mathlib.Core.List.{List}
 use mathlib.Core.Path.{_≡_}
 use lib.Ieee.{Float, binary64, div, neg, ofBits}
 use Rattle.mat.specs.declared.Su3.{Su3}
-use Rattle.mat.specs.Rounded.{_⊞_, _⊟_, _⊠_, fzero}
+use Rattle.complex.specs.Rounded.{_⊞_, _⊟_, _⊠_, fzero}
 use Rattle.mat.specs.Matrix.{reTr}
 use Rattle.mat.specs.Product.{mulOf}
 use Rattle.geometry.specs.declared.Near.{Near}

@@ -1,7 +1,7 @@
 use crate::Density;
 use crate::clover::strength;
+use complex::C64;
 use geometry::Near;
-use mat::C64;
 use mat::Su3;
 ghost use mathlib.Core.Path.{_≡_};
 ghost use Prim.Native.Nat.{_<_};

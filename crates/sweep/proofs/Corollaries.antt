@@ -18,9 +18,9 @@ use Rattle.geometry.specs.Order.{sitesOf, halfOf}
 use Rattle.geometry.proofs.Order.{count-sites}
 use Rattle.geometry.proofs.Members.{site-inside, inside-site}
 use Rattle.links.specs.Field.{Field}
-use Rattle.gauge.specs.declared.Updated.{Updated}
+use Rattle.update.specs.declared.Updated.{Updated}
 use Rattle.gauge.specs.Field.{linkOf}
-use Rattle.gauge.specs.Update.{isStuck, updateOf}
+use Rattle.update.specs.Update.{isStuck, updateOf}
 use Rattle.gauge.proofs.Lists.{Same, list-same}
 use Rattle.lattice.specs.declared.Plan.{Plan}
 use Rattle.sweep.specs.declared.FinishedAnswer.{FinishedAnswer}

@@ -18,9 +18,9 @@ use Rattle.geometry.proofs.Members.{site-inside, sites-once}
 use Rattle.links.specs.Field.{Field}
 use Rattle.links.proofs.Laws.{matrix-nine}
 use Rattle.gauge.specs.Field.{linkOf, listOf}
-use Rattle.gauge.specs.Update.{isStuck, updateOf}
+use Rattle.update.specs.Update.{isStuck, updateOf}
 use Rattle.gauge.proofs.Lists.{Same, list-same, list-holds, links-of}
-use Rattle.gauge.proofs.UpdateLaws.{updated-nine, update-reads-no-other}
+use Rattle.update.proofs.UpdateLaws.{updated-nine, update-reads-no-other}
 use Rattle.sweep.specs.declared.Job.{Job}
 use Rattle.sweep.specs.Visits.{stuckAmong, segment, overrelax, overrelaxedField, stuckLinks}
 use Rattle.sweep.specs.Jobs.{frameSites}

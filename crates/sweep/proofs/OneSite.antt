@@ -14,10 +14,10 @@ use Rattle.links.specs.Store.{withMatrix}
 use Rattle.links.specs.Field.{placeOf, linkNumber}
 use Rattle.links.proofs.Laws.{link-same, link-other, length-withMatrix, number-same, room}
 use Rattle.gauge.specs.Field.{linkOf, listOf, Link}
-use Rattle.gauge.specs.Update.{isStuck, updateOf}
+use Rattle.update.specs.Update.{isStuck, updateOf}
 use Rattle.gauge.proofs.Fits.{sized}
 use Rattle.gauge.proofs.Lists.{list-holds}
-use Rattle.gauge.proofs.UpdateLaws.{updated-nine}
+use Rattle.update.proofs.UpdateLaws.{updated-nine}
 use Rattle.sweep.specs.Visits.{visitedLink, overrelax, overrelaxedField}
 use Rattle.sweep.proofs.Visited.{visited-in, visited-out}
 

@@ -17,9 +17,9 @@ use Rattle.geometry.specs.Steps.{parityOf}
 use Rattle.links.specs.Field.{Field}
 use Rattle.links.proofs.Laws.{matrix-nine}
 use Rattle.gauge.specs.Field.{linkOf, listOf}
-use Rattle.gauge.specs.Update.{isStuck, updateOf}
+use Rattle.update.specs.Update.{isStuck, updateOf}
 use Rattle.gauge.proofs.Lists.{Same, length-list, list-is, list-same, links-of}
-use Rattle.gauge.proofs.UpdateLaws.{updated-nine, update-reads-no-other}
+use Rattle.update.proofs.UpdateLaws.{updated-nine, update-reads-no-other}
 use Rattle.lattice.specs.declared.Plan.{Plan}
 use Rattle.sweep.specs.Visits.{visitedLink}
 use Rattle.sweep.specs.Jobs.{openCall, finishedCall, passedPlan}

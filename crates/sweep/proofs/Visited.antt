@@ -11,9 +11,9 @@ use lib.ListN.{length, length-append}
 use Rattle.mat.specs.declared.Su3.{Su3}
 use Rattle.geometry.specs.Radix.{volume}
 use Rattle.links.specs.Field.{Field}
-use Rattle.gauge.specs.declared.Updated.{Updated}
+use Rattle.update.specs.declared.Updated.{Updated}
 use Rattle.gauge.specs.Staple.{SameOff}
-use Rattle.gauge.specs.Update.{isStuck}
+use Rattle.update.specs.Update.{isStuck}
 use Rattle.gauge.proofs.Lists.{Same}
 use Rattle.geometry.specs.Steps.{parityOf}
 use Rattle.sweep.specs.Visits.{visitedLink, visitedField, stuckSites, stuckAmong}

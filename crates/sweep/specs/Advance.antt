@@ -6,7 +6,7 @@ use mathlib.Core.Path.{_≡_}
 use lib.Ieee.{Float}
 use Rattle.geometry.specs.Order.{halfOf}
 use Rattle.gauge.specs.Field.{linkOf, listOf, Holds}
-use Rattle.gauge.specs.Update.{isStuck, updateOf}
+use Rattle.update.specs.Update.{isStuck, updateOf}
 use Rattle.sweep.specs.Visits.{segment, overrelaxedField, stuckLinks}
 
 -- a visit of one site

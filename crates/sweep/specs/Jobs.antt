@@ -9,7 +9,7 @@ use lib.ListN.{length}
 use Rattle.rows.specs.Rows.{firstRow, ifAccepted}
 use Rattle.geometry.specs.Order.{halfOf}
 use Rattle.links.specs.Field.{Field}
-use Rattle.gauge.specs.declared.Updated.{Updated}
+use Rattle.update.specs.declared.Updated.{Updated}
 use Rattle.gauge.specs.Field.{linkOf, listOf}
 use Rattle.lattice.specs.declared.Plan.{Plan}
 use Rattle.lattice.specs.Situations.{badExtents, badCoupling, badLinks, badDirection}

@@ -8,7 +8,7 @@ use Rattle.mat.specs.declared.Su3.{Su3}
 use Rattle.mat.specs.declared.MatrixAnswer.{MatrixAnswer}
 use Rattle.mat.specs.Answers.{matrixAnswer}
 use Rattle.gauge.specs.Field.{linkOf}
-use Rattle.gauge.specs.Update.{isStuck, updateLinkOf, updateOf}
+use Rattle.update.specs.Update.{isStuck, updateLinkOf, updateOf}
 use Rattle.lattice.specs.declared.Plan.{Plan}
 use Rattle.lattice.specs.Rows.{linkRows}
 

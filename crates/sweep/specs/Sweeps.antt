@@ -13,7 +13,7 @@ use Rattle.geometry.specs.Steps.{parityOf}
 use Rattle.geometry.specs.Order.{halfOf}
 use Rattle.links.specs.Field.{Field}
 use Rattle.gauge.specs.Field.{linkOf, listOf}
-use Rattle.gauge.specs.Update.{updateOf}
+use Rattle.update.specs.Update.{updateOf}
 use Rattle.lattice.specs.declared.Plan.{Plan}
 use Rattle.sweep.specs.Visits.{visitedLink}
 use Rattle.sweep.specs.Jobs.{openCall, finishedCall, passedPlan}

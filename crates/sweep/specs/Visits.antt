@@ -8,8 +8,8 @@ use lib.ListN.{length, take, drop}
 use Rattle.mat.specs.declared.Su3.{Su3}
 use Rattle.geometry.specs.Order.{sitesOf}
 use Rattle.links.specs.Field.{Field}
-use Rattle.gauge.specs.declared.Updated.{Updated}
-use Rattle.gauge.specs.Update.{isStuck, updateOf}
+use Rattle.update.specs.declared.Updated.{Updated}
+use Rattle.update.specs.Update.{isStuck, updateOf}
 
 -- what a visit leaves of a link
 unfoldable pub visitedLink : Updated → Su3 → Su3

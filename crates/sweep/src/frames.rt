@@ -14,9 +14,9 @@ fn visit(links: &mut [f64], d: [usize; 4], n: usize, mu: usize) -> bool
     requires { ⌜ Link d (now links) n mu ⌝ }
     ensures { λ r. ⌜ Visited d mu n (now (links .entry)) r (now (links .exit)) ⌝ }
 {
-    let r = gauge::new_link(links, d, n, mu);
+    let r = update::new_link(links, d, n, mu);
     let stuck = r.stuck;
-    if gauge::is_stuck(stuck) {
+    if update::is_stuck(stuck) {
         return true;
     }
     let link = r.link;

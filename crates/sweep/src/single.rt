@@ -1,12 +1,12 @@
-use gauge::Updated;
 use lattice::Plan;
 use mat::MatrixAnswer;
 use mat::Su3;
+use update::Updated;
 ghost use mathlib.Core.Path.{_≡_};
 ghost use mathlib.Core.List.{[], _∷_};
 ghost use Rattle.rows.specs.Rows.{firstRow};
 ghost use Rattle.mat.specs.Answers.{matrixAnswer};
-ghost use Rattle.gauge.specs.Update.{isStuck};
+ghost use Rattle.update.specs.Update.{isStuck};
 ghost use Rattle.sweep.specs.Single.{updateLinkCall, overrelaxLinkCall};
 
 // An update as an answer: row 9 where the link is stuck.
@@ -14,7 +14,7 @@ fn judged_update(r: Updated) -> MatrixAnswer
     ensures { λ s. ⌜ s ≡ matrixAnswer (firstRow ((isStuck (r .stuck), 9) ∷ [])) (r .link) ⌝ }
 {
     let stuck = r.stuck;
-    if gauge::is_stuck(stuck) {
+    if update::is_stuck(stuck) {
         return MatrixAnswer {
             refusal: 9,
             matrix: Su3::ZERO,
@@ -28,7 +28,7 @@ fn judged_update(r: Updated) -> MatrixAnswer
 pub fn update_link(u: Su3, staple: Su3) -> MatrixAnswer
     ensures { λ r. ⌜ r ≡ updateLinkCall u staple ⌝ }
 {
-    let r = gauge::update_link(u, staple);
+    let r = update::update_link(u, staple);
     judged_update(r)
 }
 
@@ -44,6 +44,6 @@ pub fn overrelax_link(plan: Plan, site: usize, mu: usize, links: &[f64]) -> Matr
             matrix: Su3::ZERO,
         };
     }
-    let r = gauge::new_link(links, d, site, mu);
+    let r = update::new_link(links, d, site, mu);
     judged_update(r)
 }

@@ -5,7 +5,7 @@ use mathlib.Core.Path.{_≡_}
 use native.Mathlib.Omega.{arith}
 use Rattle.loops.specs.Loops.{foldTo}
 use Rattle.loops.proofs.Laws.{fold-none, fold-next}
-use Rattle.mat.specs.Complex.{czero, cadd}
+use Rattle.complex.specs.Complex.{czero, cadd}
 use Rattle.gauge.specs.Field.{linkOf}
 use Rattle.gauge.specs.Polyakov.{polyakovTrace, polyakovOf}
 use Rattle.gauge.proofs.TimeLine.{places-are, places-small}

@@ -3,7 +3,7 @@ use Prim.Native.Nat.{_≤_, _-_, _*_, _+_}
 use mathlib.Core.Path.{_≡_}
 use native.Mathlib.Omega.{arith}
 use lib.ListN.{getD}
-use Rattle.mat.specs.Complex.{cadd, cmul, czero, cnan}
+use Rattle.complex.specs.Complex.{cadd, cmul, czero, cnan}
 use Rattle.mat.specs.Matrix.{ent}
 use Rattle.mat.specs.Product.{rowCol}
 use Rattle.loops.specs.Loops.{foldTo}

@@ -5,7 +5,7 @@ use native.Mathlib.Omega.{arith}
 use lib.ListN.{getD}
 use Rattle.mat.specs.Matrix.{addOf, zeros}
 use Rattle.mat.proofs.Laws.{fill-each}
-use Rattle.mat.specs.Complex.{cadd, cnan}
+use Rattle.complex.specs.Complex.{cadd, cnan}
 use Rattle.loops.specs.Loops.{fill}
 use Rattle.loops.proofs.Laws.{fill-none, fill-next}
 use Rattle.mat.proofs.Su3.add.Statement.{statement}

@@ -5,7 +5,7 @@ use native.Mathlib.Omega.{arith}
 use lib.ListN.{getD}
 use Rattle.loops.specs.Loops.{fill}
 use Rattle.loops.proofs.Laws.{fill-none, fill-done}
-use Rattle.mat.specs.Complex.{cnan, conjOf}
+use Rattle.complex.specs.Complex.{cnan, conjOf}
 use Rattle.mat.specs.Matrix.{daggerOf, zeros}
 use Rattle.mat.proofs.Laws.{byRow, fill-row, fill-table}
 use Rattle.mat.proofs.Su3.dagger.Statement.{statement}

@@ -5,8 +5,8 @@ use native.Mathlib.Omega.{arith}
 use lib.ListN.{getD}
 use lib.Ieee.{binary64, add}
 use Rattle.mat.specs.Matrix.{distSqr}
-use Rattle.mat.specs.Rounded.{fzero}
-use Rattle.mat.specs.Complex.{csub, normSqr, cnan}
+use Rattle.complex.specs.Rounded.{fzero}
+use Rattle.complex.specs.Complex.{csub, normSqr, cnan}
 use Rattle.loops.specs.Loops.{foldTo}
 use Rattle.loops.proofs.Laws.{fold-none, fold-next, fold-done}
 use Rattle.mat.proofs.Su3.dist_sqr.Statement.{statement}

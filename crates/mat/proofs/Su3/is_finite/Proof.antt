@@ -7,7 +7,7 @@ use native.Mathlib.Omega.{arith}
 use lib.ListN.{getD}
 use Rattle.loops.specs.Loops.{allBelow}
 use Rattle.loops.proofs.Laws.{all-none, all-next, all-fails, all-done}
-use Rattle.mat.specs.Complex.{cnan, finiteEntry}
+use Rattle.complex.specs.Complex.{cnan, finiteEntry}
 use Rattle.mat.specs.Matrix.{finiteMatrix}
 use Rattle.mat.proofs.Su3.is_finite.Statement.{statement}
 use Rattle.mat.proofs.Su3.is_finite.Tie as tie

@@ -4,7 +4,7 @@ use mathlib.Core.Path.{_≡_}
 use native.Mathlib.Omega.{arith}
 use lib.ListN.{getD}
 use Rattle.mat.specs.Product.{rowCol}
-use Rattle.mat.specs.Complex.{cadd, cmul, czero, cnan}
+use Rattle.complex.specs.Complex.{cadd, cmul, czero, cnan}
 use Rattle.loops.specs.Loops.{foldTo}
 use Rattle.loops.proofs.Laws.{fold-none, fold-next, fold-done}
 use Rattle.mat.proofs.product.row_col.Statement.{statement}

@@ -3,9 +3,9 @@ use borrow.Author.Needs.{needs}
 use mathlib.Core.Path.{_≡_, ap}
 use native.Mathlib.Omega.{arith}
 use lib.ListN.{getD}
-use Rattle.mat.specs.declared.C64.{C64}
+use Rattle.complex.specs.declared.C64.{C64}
 use Rattle.mat.specs.Product.{rowCol}
-use Rattle.mat.specs.Complex.{cadd, cmul, czero, cnan}
+use Rattle.complex.specs.Complex.{cadd, cmul, czero, cnan}
 use Rattle.loops.specs.Loops.{foldTo}
 use Rattle.loops.proofs.Laws.{fold-none, fold-next, fold-done}
 use Rattle.strength.proofs.densities.diagonal.Statement.{statement}

@@ -1,0 +1,11 @@
+use mathlib.Core.Path.{refl}
+use Rattle.complex.specs.Complex.{normSqr}
+use Rattle.complex.proofs.C64.norm_sqr.Statement.{statement}
+use Rattle.complex.proofs.C64.norm_sqr.Tie as tie
+
+returns : tie.Need-returns
+unfolding normSqr
+returns c = refl
+
+pub norm-sqr-spec : {M : Type 1} → statement M
+norm-sqr-spec = tie.close (tie.spec returns)
