@@ -1,11 +1,11 @@
 -- A field whose numbers are from −2 to 2 has finite densities: every number on the way is below a power of two that f64 reaches.
-use Prim.Native.Nat.{ℕ, zero, suc, _<_, _≤_}
+use Prim.Native.Nat.{ℕ, suc, _<_, _≤_}
 use mathlib.Core.Bool.{true}
 use mathlib.Core.List.{List}
 use mathlib.Core.Path.{_≡_, sym, _∙_}
 use native.Mathlib.Omega.{arith}
 use lib.Dec.{lit≤}
-use lib.Ieee.{Float, binary64, ofBits, mul, div}
+use lib.Ieee.{ofBits, mul, div}
 use lib.Ieee.Scale.{finite}
 use Rattle.loops.proofs.Laws.{each-all}
 use Rattle.mat.specs.declared.Su3.{Su3}
@@ -14,10 +14,10 @@ use Rattle.geometry.specs.Steps.{fwdOf, bwdOf}
 use Rattle.geometry.specs.Shape.{Shape}
 use Rattle.geometry.proofs.Neighbour.{fwd-below, bwd-below}
 use Rattle.links.specs.Field.{Field}
-use Rattle.gauge.specs.Field.{Holds, linkOf}
+use Rattle.gauge.specs.Field.{linkOf}
 use Rattle.gauge.specs.Plaquette.{plaquetteOf}
 use Rattle.gauge.proofs.Fits.{sized}
-use Rattle.bounds.specs.Magnitude.{Magnitude, MatrixMagnitude, allWithinTwo}
+use Rattle.bounds.specs.Magnitude.{Magnitude, MatrixMagnitude}
 use Rattle.bounds.proofs.Numbers.{magnitude-neg, magnitude-mul, magnitude-add, magnitude-sub, magnitude-mono, magnitude-zero, magnitude-finite}
 use Rattle.bounds.proofs.Matrices.{matrix-mono, magnitude-mulOf, magnitude-mulDagOf, magnitude-dagMulOf, magnitude-addOf, magnitude-scaleOf, magnitude-tracelessOf, magnitude-reTr}
 use Rattle.bounds.proofs.Lists.{within-two-fieldOf}

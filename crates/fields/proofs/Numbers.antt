@@ -1,5 +1,5 @@
 -- The lists that the calls fill, place by place, and when all their numbers are finite.
-use Prim.Native.Nat.{ℕ, zero, suc, _+_, _*_, _/_, _%_, _<_, _≤_}
+use Prim.Native.Nat.{ℕ, _+_, _*_, _/_, _%_, _<_, _≤_}
 use mathlib.Core.Bool.{Bool, true, false, cond, _&&_, true≢false}
 use mathlib.Core.List.{List, map}
 use mathlib.Core.Path.{_≡_, refl, ap, sym, _∙_}
@@ -14,7 +14,6 @@ use lib.Seq.{ext-getD}
 use borrow.Author.Tests.{eq-eqb, ne-eqb}
 use Rattle.loops.specs.Loops.{fill, allBelow}
 use Rattle.loops.proofs.Laws.{length-fill, fill-at, all-each, each-all}
-use Rattle.complex.specs.declared.C64.{C64}
 use Rattle.mat.specs.declared.Su3.{Su3}
 use Rattle.complex.specs.Complex.{finiteEntry}
 use Rattle.mat.specs.Matrix.{ent, finiteMatrix}

@@ -1,5 +1,4 @@
 -- A stout step reads the unsmeared list alone.
-use Prim.Native.Nat.{ℕ}
 use mathlib.Core.Path.{_≡_, sym, _∙_}
 use Rattle.rows.proofs.Laws.{if-accepted}
 use Rattle.fields.specs.Calls.{stepRow, smearedList}

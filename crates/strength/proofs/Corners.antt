@@ -1,5 +1,5 @@
 -- The sites of a clover by a site's neighbours, as the code takes them: a corner is worked out from the two neighbours beside it.
-use Prim.Native.Nat.{ℕ, _+_, _-_, _<_, _≤_}
+use Prim.Native.Nat.{ℕ, _+_, _-_, _<_}
 use mathlib.Core.List.{List}
 use mathlib.Core.Path.{_≡_, refl, sym}
 use native.Mathlib.Omega.{arith}

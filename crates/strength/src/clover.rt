@@ -67,10 +67,11 @@ pub fn clover_leaves(
     let u = up[nu];
     let b = down[mu];
     let c = down[nu];
-    upper_right(links, v, mu, nu, n, f, u)
-        .add(upper_left(links, v, mu, nu, n, b, u + b - n))
-        .add(lower_left(links, v, mu, nu, b, c, b + c - n))
-        .add(lower_right(links, v, mu, nu, n, c, c + f - n))
+    let l1 = upper_right(links, v, mu, nu, n, f, u);
+    let l2 = upper_left(links, v, mu, nu, n, b, u + b - n);
+    let l3 = lower_left(links, v, mu, nu, b, c, b + c - n);
+    let l4 = lower_right(links, v, mu, nu, n, c, c + f - n);
+    l1.add(l2).add(l3).add(l4)
 }
 
 // F_μν at a site.

@@ -1,5 +1,5 @@
 use borrow.Author.Needs.{needs}
-use mathlib.Core.Path.{sym, ap, _∙_}
+use mathlib.Core.Path.{sym, ap}
 use Rattle.fields.specs.Situations.{badAxis}
 use Rattle.fields.proofs.judges.bad_axis.Statement.{statement}
 use Rattle.fields.proofs.judges.bad_axis.Tie as tie
