@@ -1,8 +1,8 @@
 use borrow.Author.Needs.{needs}
 use mathlib.Core.Path.{refl}
 use Rattle.links.specs.Store.{cellAt, matrixAt}
-use Rattle.export.proofs.arrays.matrix.Statement.{statement}
-use Rattle.export.proofs.arrays.matrix.Tie as tie
+use Rattle.arrays.proofs.matrix.Statement.{statement}
+use Rattle.arrays.proofs.matrix.Tie as tie
 
 returns : tie.Need-returns
 unfolding matrixAt cellAt

@@ -1,8 +1,8 @@
 use borrow.Author.Needs.{needs}
 use mathlib.Core.Path.{sym, ap}
 use Rattle.rows.specs.Answers.{numberValue}
-use Rattle.export.proofs.arrays.number_value.Statement.{statement}
-use Rattle.export.proofs.arrays.number_value.Tie as tie
+use Rattle.arrays.proofs.number_value.Statement.{statement}
+use Rattle.arrays.proofs.number_value.Tie as tie
 
 returns : tie.Need-returns
 unfolding numberValue

@@ -1,7 +1,7 @@
-use Rattle.export.proofs.arrays.block_numbers.Statement.{statement}
+use Rattle.arrays.proofs.block_numbers.Statement.{statement}
 use mathlib.Core.Path.{refl}
-use Rattle.export.specs.Face.{blockNumbers}
-use Rattle.export.proofs.arrays.block_numbers.Tie as tie
+use Rattle.arrays.specs.Arrays.{blockNumbers}
+use Rattle.arrays.proofs.block_numbers.Tie as tie
 
 returns : tie.Need-returns
 unfolding blockNumbers

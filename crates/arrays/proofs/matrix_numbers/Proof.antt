@@ -1,8 +1,8 @@
 use borrow.Author.Needs.{needs}
 use mathlib.Core.Path.{refl}
-use Rattle.export.specs.Face.{matrixNumbers}
-use Rattle.export.proofs.arrays.matrix_numbers.Statement.{statement}
-use Rattle.export.proofs.arrays.matrix_numbers.Tie as tie
+use Rattle.arrays.specs.Arrays.{matrixNumbers}
+use Rattle.arrays.proofs.matrix_numbers.Statement.{statement}
+use Rattle.arrays.proofs.matrix_numbers.Tie as tie
 
 returns : tie.Need-returns
 unfolding matrixNumbers

@@ -1,16 +1,13 @@
+// What a host hands over as numbers, and back; an enum answer as its two numbers.
 ghost use mathlib.Core.Path.{_≡_};
 ghost use Rattle.rows.specs.Answers.{countRefusal, countValue, numberRefusal, numberValue};
-ghost use Rattle.export.specs.Face.{matrixIn, blockIn, quatIn, pairNumbers, matrixNumbers, blockNumbers, quatNumbers};
-ghost use Rattle.export.specs.Jobs.{jobIn, jobNumbers};
+ghost use Rattle.arrays.specs.Arrays.{matrixIn, blockIn, quatIn, pairNumbers, matrixNumbers, blockNumbers, quatNumbers};
 use complex::C64;
 use mat::Su3;
 use quat::Mat2;
 use quat::Quat;
 use rows::Count;
 use rows::Number;
-use sweep::Job;
-
-// What a host hands over as numbers, and back.
 
 pub fn matrix(a: [f64; 18]) -> Su3
     ensures { λ r. ⌜ r ≡ matrixIn a ⌝ }
@@ -122,37 +119,6 @@ pub fn pair_numbers(z: C64) -> [f64; 2]
     ensures { λ r. ⌜ r ≡ pairNumbers z ⌝ }
 {
     [z.re, z.im]
-}
-
-pub fn job_in(a: [u64; 9]) -> Job
-    ensures { λ r. ⌜ r ≡ jobIn a ⌝ }
-{
-    let extents = [a[0] as usize, a[1] as usize, a[2] as usize, a[3] as usize];
-    Job {
-        extents,
-        direction: a[4] as usize,
-        parity: a[5] as usize,
-        visited: a[6] as usize,
-        stuck: a[7] as usize,
-        pass: a[8],
-    }
-}
-
-pub fn job_numbers(job: Job) -> [u64; 9]
-    ensures { λ r. ⌜ r ≡ jobNumbers job ⌝ }
-{
-    let d = job.extents;
-    [
-        d[0] as u64,
-        d[1] as u64,
-        d[2] as u64,
-        d[3] as u64,
-        job.direction as u64,
-        job.parity as u64,
-        job.visited as u64,
-        job.stuck as u64,
-        job.pass,
-    ]
 }
 
 // An enum answer as its two numbers.

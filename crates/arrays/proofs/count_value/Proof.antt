@@ -1,8 +1,8 @@
 use borrow.Author.Needs.{needs}
 use mathlib.Core.Path.{sym, ap}
 use Rattle.rows.specs.Answers.{countValue}
-use Rattle.export.proofs.arrays.count_value.Statement.{statement}
-use Rattle.export.proofs.arrays.count_value.Tie as tie
+use Rattle.arrays.proofs.count_value.Statement.{statement}
+use Rattle.arrays.proofs.count_value.Tie as tie
 
 returns : tie.Need-returns
 unfolding countValue

@@ -1,9 +1,9 @@
 use borrow.Author.Needs.{needs}
 use mathlib.Core.Path.{refl}
 use Rattle.links.specs.Store.{cellAt}
-use Rattle.export.specs.Face.{blockIn}
-use Rattle.export.proofs.arrays.block.Statement.{statement}
-use Rattle.export.proofs.arrays.block.Tie as tie
+use Rattle.arrays.specs.Arrays.{blockIn}
+use Rattle.arrays.proofs.block.Statement.{statement}
+use Rattle.arrays.proofs.block.Tie as tie
 
 returns : tie.Need-returns
 unfolding blockIn cellAt

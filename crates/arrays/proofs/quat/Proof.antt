@@ -1,8 +1,8 @@
 use borrow.Author.Needs.{needs}
 use mathlib.Core.Path.{refl}
-use Rattle.export.specs.Face.{quatIn}
-use Rattle.export.proofs.arrays.quat.Statement.{statement}
-use Rattle.export.proofs.arrays.quat.Tie as tie
+use Rattle.arrays.specs.Arrays.{quatIn}
+use Rattle.arrays.proofs.quat.Statement.{statement}
+use Rattle.arrays.proofs.quat.Tie as tie
 
 returns : tie.Need-returns
 unfolding quatIn

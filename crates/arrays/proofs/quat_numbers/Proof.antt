@@ -1,7 +1,7 @@
-use Rattle.export.proofs.arrays.quat_numbers.Statement.{statement}
+use Rattle.arrays.proofs.quat_numbers.Statement.{statement}
 use mathlib.Core.Path.{refl}
-use Rattle.export.specs.Face.{quatNumbers}
-use Rattle.export.proofs.arrays.quat_numbers.Tie as tie
+use Rattle.arrays.specs.Arrays.{quatNumbers}
+use Rattle.arrays.proofs.quat_numbers.Tie as tie
 
 returns : tie.Need-returns
 unfolding quatNumbers

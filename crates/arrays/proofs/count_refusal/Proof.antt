@@ -1,8 +1,8 @@
 use borrow.Author.Needs.{needs}
 use mathlib.Core.Path.{sym, ap}
 use Rattle.rows.specs.Answers.{countRefusal}
-use Rattle.export.proofs.arrays.count_refusal.Statement.{statement}
-use Rattle.export.proofs.arrays.count_refusal.Tie as tie
+use Rattle.arrays.proofs.count_refusal.Statement.{statement}
+use Rattle.arrays.proofs.count_refusal.Tie as tie
 
 returns : tie.Need-returns
 unfolding countRefusal

@@ -1,7 +1,7 @@
-use Rattle.export.proofs.arrays.pair_numbers.Statement.{statement}
+use Rattle.arrays.proofs.pair_numbers.Statement.{statement}
 use mathlib.Core.Path.{refl}
-use Rattle.export.specs.Face.{pairNumbers}
-use Rattle.export.proofs.arrays.pair_numbers.Tie as tie
+use Rattle.arrays.specs.Arrays.{pairNumbers}
+use Rattle.arrays.proofs.pair_numbers.Tie as tie
 
 returns : tie.Need-returns
 unfolding pairNumbers
