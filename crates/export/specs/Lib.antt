@@ -1,4 +1,4 @@
--- `Face` has arrays of numbers and what they hold; `Lists` what the calls on lists of links leave; `Jobs` a job's numbers, and what the calls of a half-sweep leave.
+-- `Face` has what a call gives in an array; `Lists` what the calls on lists of links leave; `Jobs` a job's numbers, and what the calls of a half-sweep leave.
 pub mod Face
 pub mod Lists
 pub mod Jobs

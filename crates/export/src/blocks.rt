@@ -3,13 +3,14 @@ ghost use Rattle.quat.specs.Quaternion.{projectOf, quatNorm, quatConj, quatMul,
 ghost use Rattle.quat.specs.Subgroup.{subgroupRow, subBlock, leftMulSub};
 ghost use Rattle.mat.specs.Answers.{matrixAnswer};
 ghost use Rattle.quat.specs.Answers.{blockAnswer};
-ghost use Rattle.export.specs.Face.{matrixIn, blockIn, quatIn, blockNumbers, quatNumbers, MatrixGiven, BlockGiven};
-use crate::arrays::block;
-use crate::arrays::block_numbers;
-use crate::arrays::matrix;
-use crate::arrays::matrix_numbers;
-use crate::arrays::quat;
-use crate::arrays::quat_numbers;
+ghost use Rattle.arrays.specs.Arrays.{matrixIn, blockIn, quatIn, blockNumbers, quatNumbers};
+ghost use Rattle.export.specs.Face.{MatrixGiven, BlockGiven};
+use arrays::block;
+use arrays::block_numbers;
+use arrays::matrix;
+use arrays::matrix_numbers;
+use arrays::quat;
+use arrays::quat_numbers;
 use quat::Quat;
 
 #[no_mangle]

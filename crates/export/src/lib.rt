@@ -1,8 +1,8 @@
 // The C face: every call that a host in C or Rust can make, under the names of include/jamjune.h.
 mod arithmetic;
-mod arrays;
 mod blocks;
 mod generator;
+mod job_arrays;
 mod lists;
 mod matrices;
 mod observables;

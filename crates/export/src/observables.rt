@@ -1,9 +1,9 @@
 ghost use Rattle.lattice.specs.Answers.{plaquetteCall, stapleCall, loopCall};
 ghost use Rattle.export.specs.Face.{planIn, MatrixGiven, LoopGiven};
 ghost use Rattle.export.specs.Lists.{AverageGiven, ActionGiven};
-use crate::arrays::matrix_numbers;
-use crate::arrays::number_refusal;
-use crate::arrays::number_value;
+use arrays::matrix_numbers;
+use arrays::number_refusal;
+use arrays::number_value;
 use lattice::Plan;
 
 #[no_mangle]

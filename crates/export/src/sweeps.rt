@@ -1,11 +1,12 @@
 ghost use Rattle.sweep.specs.Single.{updateLinkCall, overrelaxLinkCall};
 ghost use Rattle.sweep.specs.Jobs.{openCall, finishedCall};
-ghost use Rattle.export.specs.Face.{matrixIn, planIn, MatrixGiven};
+ghost use Rattle.arrays.specs.Arrays.{matrixIn};
+ghost use Rattle.export.specs.Face.{planIn, MatrixGiven};
 ghost use Rattle.export.specs.Jobs.{jobIn, passPlan, OpenGiven, FrameGiven, FinishedGiven};
-use crate::arrays::job_in;
-use crate::arrays::job_numbers;
-use crate::arrays::matrix;
-use crate::arrays::matrix_numbers;
+use crate::job_arrays::job_in;
+use crate::job_arrays::job_numbers;
+use arrays::matrix;
+use arrays::matrix_numbers;
 use lattice::Plan;
 
 #[no_mangle]

@@ -16,14 +16,14 @@ fn each_is_finite(links: &[f64], d: [usize; 4], kind: Density) -> bool
     ensures { λ r. ⌜ r ≡ finiteNumbers (densityList d kind (now (links .entry))) ⌝ }
 {
     let v = geometry::sites(d);
-    let s = geometry::strides(d);
+    let s = steps::strides(d);
     let mut c = [0usize; 4];
     for n in 0..v {
-        let near = geometry::neighbours_at(d, s, c, n);
+        let near = steps::neighbours_at(d, s, c, n);
         if !rows::is_finite(strength::density_at(links, d, v, n, near, kind)) {
             return false;
         }
-        let next = geometry::next(d, c);
+        let next = steps::next(d, c);
         c = next;
     }
     true
@@ -46,12 +46,12 @@ fn store(links: &[f64], d: [usize; 4], kind: Density, density: &mut [f64])
     ensures { λ _. ⌜ now (density .exit) ≡ densityList d kind (now (links .entry)) ⌝ }
 {
     let v = geometry::sites(d);
-    let s = geometry::strides(d);
+    let s = steps::strides(d);
     let mut c = [0usize; 4];
     for n in 0..v {
-        let near = geometry::neighbours_at(d, s, c, n);
+        let near = steps::neighbours_at(d, s, c, n);
         density[n] = strength::density_at(links, d, v, n, near, kind);
-        let next = geometry::next(d, c);
+        let next = steps::next(d, c);
         c = next;
     }
 }

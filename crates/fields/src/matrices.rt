@@ -23,7 +23,7 @@ pub fn clover_leaves(
             matrix: Su3::ZERO,
         };
     }
-    let near = geometry::neighbours(extents, site);
+    let near = steps::neighbours(extents, site);
     let v = geometry::sites(extents);
     let q = strength::clover_leaves(links, extents, v, site, mu, nu, near);
     lattice::judged_matrix(q)
@@ -52,7 +52,7 @@ pub fn field_strength_at(extents: [usize; 4], site: usize, links: &[f64]) -> Str
             f: [Su3::ZERO; 6],
         };
     }
-    let near = geometry::neighbours(extents, site);
+    let near = steps::neighbours(extents, site);
     let v = geometry::sites(extents);
     let f = strength::field_strength(links, extents, v, site, near);
     if !finite_six(f) {

@@ -17,8 +17,8 @@ pub fn plaquette(links: &[f64], d: [usize; 4], n: usize, mu: usize, nu: usize) -
     ensures { λ r. ⌜ r ≡ plaquetteOf d (linkOf d (now (links .entry))) n mu nu ⌝ }
 {
     let v = geometry::sites(d);
-    let f = geometry::fwd(d, n, mu);
-    let g = geometry::fwd(d, n, nu);
+    let f = steps::fwd(d, n, mu);
+    let g = steps::fwd(d, n, nu);
     let a = links::mul_at(links, links::place(v, mu, n), links::place(v, nu, f));
     let b = links::mul_at(links, links::place(v, nu, n), links::place(v, mu, g));
     a.mul_dag(b)
@@ -105,14 +105,14 @@ pub fn average_plaquette(links: &[f64], d: [usize; 4]) -> f64
     ensures { λ r. ⌜ r ≡ averageOf d (linkOf d (now (links .entry))) ⌝ }
 {
     let v = geometry::sites(d);
-    let s = geometry::strides(d);
+    let s = steps::strides(d);
     let mut c = [0usize; 4];
     let mut sum = 0.0;
     for n in 0..v {
-        let near = geometry::neighbours_at(d, s, c, n);
+        let near = steps::neighbours_at(d, s, c, n);
         let up = near.up;
         sum += planes_sum(links, d, v, n, up);
-        let next = geometry::next(d, c);
+        let next = steps::next(d, c);
         c = next;
     }
     sum / ((v as u32) as f64 * 6.0 * 3.0)

@@ -47,7 +47,7 @@ pub fn staple(links: &[f64], d: [usize; 4], n: usize, mu: usize) -> Su3
     ensures { λ r. ⌜ r ≡ stapleOf d (linkOf d (now (links .entry))) n mu ⌝ }
 {
     let v = geometry::sites(d);
-    let near = geometry::neighbours(d, n);
+    let near = steps::neighbours(d, n);
     let up = near.up;
     let down = near.down;
     let f = up[mu];

@@ -1,10 +1,9 @@
-// Sites, their coordinates, neighbours and parity. The extents d are those of t, x, y and z.
+// Sites, their coordinates and parity. The extents d are those of t, x, y and z.
 ghost use mathlib.Core.Path.{_≡_};
 ghost use Prim.Native.Nat.{_<_};
-ghost use Rattle.geometry.specs.Radix.{volume, coordsOf, indexOf, nextOf, Within};
+ghost use Rattle.geometry.specs.Radix.{volume, coordsOf, indexOf, Within};
 ghost use Rattle.geometry.specs.Shape.{Shape, extentTest, fitsOf};
-ghost use Rattle.geometry.specs.Steps.{movedOf, fwdOf, bwdOf, nearOf, parityOf};
-ghost use Rattle.geometry.specs.Stride.{stridesOf, upOf, downOf, Step};
+ghost use Rattle.geometry.specs.Steps.{parityOf};
 ghost use Rattle.geometry.specs.Order.{halfOf, nthOf};
 
 // The sites next to a site, up and down each axis.
@@ -74,103 +73,4 @@ pub fn nth(d: [usize; 4], p: usize, k: usize) -> usize
 {
     let at = 2 * k;
     at + (p + parity(d, at)) % 2
-}
-
-// How far apart neighbours are along each axis, and last the number of sites.
-pub fn strides(d: [usize; 4]) -> [usize; 5]
-    requires { ⌜ Shape d ⌝ }
-    ensures { λ r. ⌜ r ≡ stridesOf d ⌝ }
-{
-    let s2 = d[0] * d[1];
-    let s3 = s2 * d[2];
-    [1, d[0], s2, s3, s3 * d[3]]
-}
-
-// The site k further along an axis, wrapping: only its coordinate c on that axis is another.
-pub fn moved(d: [usize; 4], site: usize, mu: usize, k: usize) -> usize
-    requires { ⌜ Shape d × (site < volume d) × (mu < 4) × (k < 65536) ⌝ }
-    ensures { λ r. ⌜ r ≡ movedOf d site mu k ⌝ }
-{
-    let all = strides(d);
-    let s = all[mu];
-    let c = site / s % d[mu];
-    site + s * ((c + k) % d[mu]) - s * c
-}
-
-// One step up an axis: c is the coordinate, e the extent, s the stride, w the next axis's stride.
-fn step_up(n: usize, c: usize, e: usize, s: usize, w: usize) -> usize
-    requires { ⌜ Step n c e s w ⌝ }
-    ensures { λ r. ⌜ r ≡ upOf n c e s w ⌝ }
-{
-    if c + 1 < e { n + s } else { n + s - w }
-}
-
-// One step down an axis.
-fn step_down(n: usize, c: usize, e: usize, s: usize, w: usize) -> usize
-    requires { ⌜ Step n c e s w ⌝ }
-    ensures { λ r. ⌜ r ≡ downOf n c s w ⌝ }
-{
-    if 0 < c { n - s } else { n + w - s }
-}
-
-// The next site along an axis, wrapping.
-pub fn fwd(d: [usize; 4], site: usize, mu: usize) -> usize
-    requires { ⌜ Shape d × (site < volume d) × (mu < 4) ⌝ }
-    ensures { λ r. ⌜ r ≡ fwdOf d site mu ⌝ }
-{
-    let s = strides(d);
-    let c = site / s[mu] % d[mu];
-    step_up(site, c, d[mu], s[mu], s[mu + 1])
-}
-
-// The site before along an axis, wrapping.
-pub fn bwd(d: [usize; 4], site: usize, mu: usize) -> usize
-    requires { ⌜ Shape d × (site < volume d) × (mu < 4) ⌝ }
-    ensures { λ r. ⌜ r ≡ bwdOf d site mu ⌝ }
-{
-    let s = strides(d);
-    let c = site / s[mu] % d[mu];
-    step_down(site, c, d[mu], s[mu], s[mu + 1])
-}
-
-// All neighbours of a site, from the strides and the site's coordinates.
-pub fn neighbours_at(d: [usize; 4], s: [usize; 5], c: [usize; 4], n: usize) -> Near
-    requires { ⌜ Shape d × (n < volume d) × (s ≡ stridesOf d) × (c ≡ coordsOf d n) ⌝ }
-    ensures { λ r. ⌜ r ≡ nearOf d n ⌝ }
-{
-    let mut up = [0usize; 4];
-    let mut down = [0usize; 4];
-    for mu in 0..4 {
-        up[mu] = step_up(n, c[mu], d[mu], s[mu], s[mu + 1]);
-        down[mu] = step_down(n, c[mu], d[mu], s[mu], s[mu + 1]);
-    }
-    Near { up, down }
-}
-
-// All neighbours of a site.
-pub fn neighbours(d: [usize; 4], n: usize) -> Near
-    requires { ⌜ Shape d × (n < volume d) ⌝ }
-    ensures { λ r. ⌜ r ≡ nearOf d n ⌝ }
-{
-    neighbours_at(d, strides(d), coords(d, n), n)
-}
-
-// The coordinates of the site with the next number, from a site's: a walk over all sites needs no division.
-pub fn next(d: [usize; 4], c: [usize; 4]) -> [usize; 4]
-    requires { ⌜ Shape d × Within d c ⌝ }
-    ensures { λ r. ⌜ r ≡ nextOf d c ⌝ }
-{
-    if c[0] + 1 < d[0] {
-        return [c[0] + 1, c[1], c[2], c[3]];
-    }
-    if c[1] + 1 < d[1] {
-        return [0, c[1] + 1, c[2], c[3]];
-    }
-    if c[2] + 1 < d[2] {
-        return [0, 0, c[2] + 1, c[3]];
-    }
-    if c[3] + 1 < d[3] {
-        return [0, 0, 0, c[3] + 1];
-    }
-    [0, 0, 0, 0]
 }

@@ -72,7 +72,7 @@ pub fn fwd(extents: [usize; 4], site: usize, mu: usize) -> Count
     if row != 0 {
         return Count::Refused(row);
     }
-    Count::Value(geometry::fwd(extents, site, mu))
+    Count::Value(steps::fwd(extents, site, mu))
 }
 
 // The site before along a direction.
@@ -83,5 +83,5 @@ pub fn bwd(extents: [usize; 4], site: usize, mu: usize) -> Count
     if row != 0 {
         return Count::Refused(row);
     }
-    Count::Value(geometry::bwd(extents, site, mu))
+    Count::Value(steps::bwd(extents, site, mu))
 }

@@ -1,12 +1,12 @@
-use crate::hash::Fnv;
-use crate::inputs::Pair;
-use crate::inputs::Set;
-use crate::inputs::block;
-use crate::inputs::pair_at;
-use crate::inputs::quaternion;
-use crate::print::hash_line;
 use mat::Su3;
 use quat::Quat;
+use sample::hash::Fnv;
+use sample::inputs::Pair;
+use sample::inputs::Set;
+use sample::inputs::block;
+use sample::inputs::pair_at;
+use sample::inputs::quaternion;
+use sample::print::hash_line;
 
 // The calls have the numbers of their lines, from 0. These seven answer a matrix.
 fn combined(call: u32, p: Pair) -> Su3 {

@@ -2,15 +2,12 @@
 // project's calls to them, or for a hash of many. The Rust printed the stored output, so these calls
 // are held to a sample of its answers, and no Rust is needed. compare/src/sample.rs has the lines.
 mod arithmetic;
-mod field_lines;
-mod hash;
-mod inputs;
-mod print;
-mod site_lines;
 mod sweep_lines;
 
-use inputs::Kind;
-use inputs::Set;
+use lines::field_lines;
+use lines::site_lines;
+use sample::inputs::Kind;
+use sample::inputs::Set;
 
 // The list is 72 numbers for each site.
 fn lattice_lines(extents: [usize; 4], links: &mut [f64]) {

@@ -1,13 +1,13 @@
-use crate::field_lines::fill;
-use crate::field_lines::over_links;
-use crate::hash::Fnv;
-use crate::inputs::Kind;
-use crate::print::hash_line;
-use crate::print::spaced_decimal;
-use crate::print::spaced_hex;
-use crate::print::spaced_number;
 use lattice::Plan;
+use lines::field_lines::fill;
+use lines::field_lines::over_links;
 use mat::Su3;
+use sample::hash::Fnv;
+use sample::inputs::Kind;
+use sample::print::hash_line;
+use sample::print::spaced_decimal;
+use sample::print::spaced_hex;
+use sample::print::spaced_number;
 use sweep::Job;
 
 // A frame of this size visits all that is left.
