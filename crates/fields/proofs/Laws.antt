@@ -11,17 +11,17 @@ use Rattle.mat.specs.declared.Su3.{Su3}
 use Rattle.geometry.specs.Radix.{volume}
 use Rattle.strength.specs.declared.Density.{Density}
 use Rattle.strength.specs.Densities.{InSpace}
-use Rattle.fields.specs.Situations.{badSites, badAxis, finiteNumbers, badNumbers, finiteSix, badSix}
+use Rattle.fields.specs.Situations.{badDensityList, badAxis, finiteNumbers, badNumbers, finiteSix, badSix}
 use Rattle.fields.specs.Calls.{Filled, sixZeros, strengthAnswer}
 
 module _ (d : List ℕ) where
-  pub bad-sites : {long : ℕ} → (long ≡ volume d → ⊥) → badSites d long ≡ true
-  unfolding badSites
-  bad-sites h = rw (ne-eqb _ _ h)
+  pub bad-density-list : {long : ℕ} → (long ≡ volume d → ⊥) → badDensityList d long ≡ true
+  unfolding badDensityList
+  bad-density-list h = rw (ne-eqb _ _ h)
 
-  pub good-sites : {long : ℕ} → long ≡ volume d → badSites d long ≡ false
-  unfolding badSites
-  good-sites h = rw (eq-eqb _ _ h)
+  pub good-density-list : {long : ℕ} → long ≡ volume d → badDensityList d long ≡ false
+  unfolding badDensityList
+  good-density-list h = rw (eq-eqb _ _ h)
 
 pub in-space : (kind : Density) → badAxis kind ≡ false → InSpace kind
 unfolding badAxis InSpace

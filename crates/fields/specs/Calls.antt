@@ -21,7 +21,7 @@ use Rattle.strength.specs.Densities.{densityOf}
 use Rattle.stout.specs.Stout.{stoutOf}
 use Rattle.fields.specs.declared.StrengthAnswer.{StrengthAnswer}
 use Rattle.fields.specs.declared.ListAnswer.{ListAnswer}
-use Rattle.fields.specs.Situations.{badNumbers, badSix, strengthRows, stoutRows, stepRows, densityRows}
+use Rattle.fields.specs.Situations.{badNumbers, badSix, strengthRows, stoutRows, smearRows, densityRows}
 
 -- ## Matrices
 
@@ -61,7 +61,7 @@ unfoldable pub smearedList : List ℕ → Float → List Float → List Float
 smearedList d rho l = listOf d (smeared d (linkOf d l) rho)
 
 unfoldable pub stepRow : List ℕ → Float → List Float → List Float → ℕ
-stepRow d rho l old = finally (firstRow (stepRows d (length l) (length old))) (badNumbers (smearedList d rho l), 10)
+stepRow d rho l old = finally (firstRow (smearRows d (length l) (length old))) (badNumbers (smearedList d rho l), 10)
 
 abbrev pub StepCall : List ℕ → Float → List Float → List Float → ListAnswer → List Float → Type 0
 StepCall d rho l old r exit = Filled (stepRow d rho l old) (smearedList d rho l) old r exit

@@ -1,17 +1,19 @@
 -- What follows from the definitions.
-use Prim.Native.Nat.{ℕ}
+use Prim.Native.Nat.{ℕ, _<_}
 use mathlib.Core.Bool.{true}
 use mathlib.Core.List.{List}
 use mathlib.Core.Path.{_≡_}
-use lib.Ieee.{Float}
-use lib.ListN.{length}
+use lib.Ieee.{Float, nan}
+use lib.ListN.{length, getD}
 use Rattle.bounds.specs.Magnitude.{allWithinTwo}
-use Rattle.gauge.specs.Field.{Holds}
+use Rattle.geometry.specs.Radix.{volume}
+use Rattle.gauge.specs.Field.{Holds, linkOf}
 use Rattle.strength.specs.declared.Density.{Density}
-use Rattle.strength.specs.Densities.{InSpace}
+use Rattle.strength.specs.Densities.{InSpace, densityOf}
+use Rattle.stout.specs.Stout.{stoutOf}
 use Rattle.fields.specs.declared.ListAnswer.{ListAnswer}
 use Rattle.fields.specs.Situations.{finiteNumbers}
-use Rattle.fields.specs.Calls.{densityList, StepCall}
+use Rattle.fields.specs.Calls.{densityList, StepCall, DensityCall}
 
 -- a field whose numbers are from −2 to 2 has finite densities
 abbrev pub SmallFieldsAreFinite : Type 0
@@ -21,3 +23,13 @@ SmallFieldsAreFinite = (d : List ℕ) (l : List Float) → Holds d l → allWith
 abbrev pub StepReadsOneList : Type 0
 StepReadsOneList = (d : List ℕ) (rho : Float) (l old other : List Float) → length old ≡ length other → (r s : ListAnswer) (exit exit' : List Float)
     → StepCall d rho l old r exit → StepCall d rho l other s exit' → (r ≡ s) × (r .refusal ≡ 0 → exit ≡ exit')
+
+-- an accepted step leaves a list whose links are what `stout_link` gives, link by link
+abbrev pub StepHoldsStoutLinks : Type 0
+StepHoldsStoutLinks = (d : List ℕ) (rho : Float) (l old : List Float) (r : ListAnswer) (exit : List Float) → StepCall d rho l old r exit → r .refusal ≡ 0
+    → (mu n : ℕ) → mu < 4 → n < volume d → linkOf d exit mu n ≡ stoutOf d (linkOf d l) 12 rho n mu
+
+-- and an accepted density call one whose numbers are the density, site by site
+abbrev pub ListHoldsDensity : Type 0
+ListHoldsDensity = (d : List ℕ) (kind : Density) (l old : List Float) (r : ListAnswer) (exit : List Float) → DensityCall d kind l old r exit → r .refusal ≡ 0
+    → (n : ℕ) → n < volume d → getD exit n nan ≡ densityOf d (linkOf d l) kind n

@@ -17,8 +17,8 @@ use Rattle.lattice.specs.Situations.{badExtents, badLinks, badSite, badDirectio
 -- ## Situations
 
 -- 3: a density list of wrong length
-unfoldable pub badSites : List ℕ → ℕ → Bool
-badSites d long = not (eqb long (volume d))
+unfoldable pub badDensityList : List ℕ → ℕ → Bool
+badDensityList d long = not (eqb long (volume d))
 
 -- 5: an electric axis above 2
 unfoldable pub badAxis : Density → Bool
@@ -53,10 +53,10 @@ strengthRows d long n = (badExtents d, 1) ∷ (badLinks d long, 3) ∷ (badSite 
 abbrev pub stoutRows : List ℕ → ℕ → ℕ → ℕ → Rows
 stoutRows d long n mu = (badExtents d, 1) ∷ (badLinks d long, 3) ∷ (badSite d n, 4) ∷ (badDirection mu, 5) ∷ []
 
--- stout_step; room is the length of the list to be filled
-abbrev pub stepRows : List ℕ → ℕ → ℕ → Rows
-stepRows d long room = (badExtents d, 1) ∷ (badLinks d long, 3) ∷ (badLinks d room, 3) ∷ []
+-- stout_step; second is the length of the list to be filled
+abbrev pub smearRows : List ℕ → ℕ → ℕ → Rows
+smearRows d long second = (badExtents d, 1) ∷ (badLinks d long, 3) ∷ (badLinks d second, 3) ∷ []
 
 -- action_density, topological_charge_density, electric_sq
 abbrev pub densityRows : List ℕ → ℕ → ℕ → Density → Rows
-densityRows d long room kind = (badExtents d, 1) ∷ (badLinks d long, 3) ∷ (badSites d room, 3) ∷ (badAxis kind, 5) ∷ []
+densityRows d long second kind = (badExtents d, 1) ∷ (badLinks d long, 3) ∷ (badDensityList d second, 3) ∷ (badAxis kind, 5) ∷ []

@@ -29,7 +29,7 @@ fn each_is_finite(links: &[f64], d: [usize; 4], kind: Density) -> bool
     true
 }
 
-// The same. Where all links' numbers are from -2 to 2 no density can fail.
+// Whether a density is finite at every site. Where all links' numbers are from -2 to 2 it is.
 fn is_finite(links: &[f64], d: [usize; 4], kind: Density) -> bool
     requires { ⌜ Holds d (now links) × InSpace kind ⌝ }
     ensures { λ r. ⌜ r ≡ finiteNumbers (densityList d kind (now (links .entry))) ⌝ }
@@ -56,8 +56,8 @@ fn store(links: &[f64], d: [usize; 4], kind: Density, density: &mut [f64])
     }
 }
 
-// Fills a list with a density: first every number is known to be finite, and then it is worked out and
-// stored.
+// Fills a list with a density, once no number of it can fail row 10: by one scan of the links, or by
+// working it out twice.
 fn fill(extents: [usize; 4], kind: Density, links: &[f64], density: &mut [f64]) -> ListAnswer
     ensures { λ r. ⌜ DensityCall extents kind (now (links .entry)) (now (density .entry)) r (now (density .exit)) ⌝ }
 {

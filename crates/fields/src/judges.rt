@@ -5,7 +5,7 @@ ghost use Rattle.rows.specs.Rows.{Judged};
 ghost use Rattle.geometry.specs.Radix.{volume};
 ghost use Rattle.geometry.specs.Shape.{Shape};
 ghost use Rattle.strength.specs.Densities.{InSpace};
-ghost use Rattle.fields.specs.Situations.{badAxis, strengthRows, stoutRows, stepRows, densityRows};
+ghost use Rattle.fields.specs.Situations.{badAxis, strengthRows, stoutRows, smearRows, densityRows};
 
 // The judges: the first row that holds of a call's inputs, and 0 where none does.
 
@@ -44,8 +44,8 @@ pub fn stout_row(d: [usize; 4], long: usize, n: usize, mu: usize) -> u32
     0
 }
 
-pub fn step_row(d: [usize; 4], long: usize, room: usize) -> u32
-    ensures { λ r. ⌜ Judged (stepRows d long room) (Shape d × (long ≡ 72 * volume d) × (room ≡ 72 * volume d)) r ⌝ }
+pub fn smear_row(d: [usize; 4], long: usize, second: usize) -> u32
+    ensures { λ r. ⌜ Judged (smearRows d long second) (Shape d × (long ≡ 72 * volume d) × (second ≡ 72 * volume d)) r ⌝ }
 {
     if !geometry::fits(d) {
         return 1;
@@ -54,7 +54,7 @@ pub fn step_row(d: [usize; 4], long: usize, room: usize) -> u32
     if long != 72 * v {
         return 3;
     }
-    if room != 72 * v {
+    if second != 72 * v {
         return 3;
     }
     0
@@ -70,8 +70,8 @@ fn bad_axis(kind: Density) -> bool
     }
 }
 
-pub fn density_row(d: [usize; 4], long: usize, room: usize, kind: Density) -> u32
-    ensures { λ r. ⌜ Judged (densityRows d long room kind) (Shape d × (long ≡ 72 * volume d) × (room ≡ volume d) × InSpace kind) r ⌝ }
+pub fn density_row(d: [usize; 4], long: usize, second: usize, kind: Density) -> u32
+    ensures { λ r. ⌜ Judged (densityRows d long second kind) (Shape d × (long ≡ 72 * volume d) × (second ≡ volume d) × InSpace kind) r ⌝ }
 {
     if !geometry::fits(d) {
         return 1;
@@ -80,7 +80,7 @@ pub fn density_row(d: [usize; 4], long: usize, room: usize, kind: Density) -> u3
     if long != 72 * v {
         return 3;
     }
-    if room != v {
+    if second != v {
         return 3;
     }
     if bad_axis(kind) {

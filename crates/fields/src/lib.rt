@@ -1,5 +1,5 @@
 // Smearing, field strength and densities of a field in a lent list: each call judges what it is handed by
-// the rows of its table, in order, and answers the row's number or what its definition says. A list that is
+// its rows, in order, and answers the row's number or what its definition says. A list that is
 // filled stays as it was where the call is refused: no number is stored before all are known to be finite.
 mod densities;
 mod judges;
@@ -15,7 +15,7 @@ pub use matrices::field_strength_at;
 pub use smearing::stout_link;
 pub use smearing::stout_step;
 
-// The field strength in the planes 01 02 03 12 13 23 of t, x, y, z, and 0; or the row that refuses the call,
+// The field strength F_01, F_02, F_03, F_12, F_13, F_23, with refusal 0; or the row that refuses the call,
 // and zeros.
 pub struct StrengthAnswer {
     pub refusal: u32,

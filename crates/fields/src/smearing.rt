@@ -1,5 +1,5 @@
 use crate::ListAnswer;
-use crate::judges::step_row;
+use crate::judges::smear_row;
 use crate::judges::stout_row;
 use mat::MatrixAnswer;
 use mat::Su3;
@@ -11,7 +11,7 @@ ghost use Rattle.gauge.specs.Field.{Holds};
 ghost use Rattle.fields.specs.Situations.{finiteNumbers};
 ghost use Rattle.fields.specs.Calls.{stoutCall, smearedList, StepCall};
 
-// The terms of the exponential's series.
+// How many terms of the exponential's series are summed.
 const TERMS: u32 = 12;
 
 // The smeared value of one link.
@@ -66,7 +66,7 @@ fn store(links: &[f64], d: [usize; 4], rho: f64, smeared: &mut [f64])
 pub fn stout_step(extents: [usize; 4], rho: f64, links: &[f64], smeared: &mut [f64]) -> ListAnswer
     ensures { λ r. ⌜ StepCall extents rho (now (links .entry)) (now (smeared .entry)) r (now (smeared .exit)) ⌝ }
 {
-    let row = step_row(extents, links.len(), smeared.len());
+    let row = smear_row(extents, links.len(), smeared.len());
     if row != 0 {
         return ListAnswer { refusal: row };
     }

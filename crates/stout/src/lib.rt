@@ -1,4 +1,4 @@
-// Stout smearing of one link of a field that fits: the list holds one of the extents d, and site and
+// Stout smearing of one link of a field that fits: the list holds a field of extents d, and site and
 // direction are in range.
 use mat::Su3;
 ghost use mathlib.Core.Path.{_≡_};

@@ -1,3 +1,4 @@
 pub mod Corners
-pub mod Locality
 pub mod ByKind
+pub mod Locality
+pub mod Sums

@@ -8,7 +8,7 @@ use Rattle.gauge.specs.Plaquette.{plaquetteOf}
 use Rattle.strength.specs.declared.Density.{Density}
 use Rattle.strength.specs.Clover.{cloverOf, strengthOf}
 use Rattle.strength.specs.Densities.{planeDensity, electricOf, actionDensityOf, chargeDensityOf, densityOf}
-use Rattle.strength.specs.Claims.{SameClover, SameFor, CloverIsLocal, DensityIsLocal, ActionBeginsElectric}
+use Rattle.strength.specs.Claims.{SameClover, SameClovers, SameFor, CloverIsLocal, DensityIsLocal}
 
 pub clover-is-local : CloverIsLocal
 unfolding cloverOf plaquetteOf
@@ -23,7 +23,7 @@ plane-is-local : (d : List ℕ) (U W : Field) (n mu nu : ℕ) → SameClover d U
 unfolding planeDensity
 plane-is-local d U W n mu nu s = rw (strength-is-local d U W n mu nu s)
 
-module _ (d : List ℕ) (U W : Field) (n : ℕ) (same : (mu nu : ℕ) → mu < nu → nu < 4 → SameClover d U W n mu nu) where
+module _ (d : List ℕ) (U W : Field) (n : ℕ) (same : SameClovers d U W n) where
   p : (mu nu : ℕ) → mu < nu → nu < 4 → planeDensity d U n mu nu ≡ planeDensity d W n mu nu
   p mu nu a b = plane-is-local d U W n mu nu (same mu nu a b)
 
@@ -45,7 +45,3 @@ unfolding SameFor densityOf electricOf
 density-is-local d U W Density.Action n same = action-is-local d U W n same
 density-is-local d U W Density.Charge n same = charge-is-local d U W n same
 density-is-local d U W (Density.Electric axis) n same = plane-is-local d U W n 0 (suc axis) same
-
-pub action-begins-electric : ActionBeginsElectric
-unfolding actionDensityOf electricOf
-action-begins-electric d U n = refl

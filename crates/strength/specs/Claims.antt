@@ -2,12 +2,13 @@
 use Prim.Native.Nat.{ℕ, suc, _<_}
 use mathlib.Core.List.{List}
 use mathlib.Core.Path.{_≡_}
-use Rattle.complex.specs.Rounded.{_⊞_, fzero}
+use lib.Ieee.{Float, binary64, ofBits}
+use Rattle.complex.specs.Rounded.{_⊞_, fzero, fone}
 use Rattle.geometry.specs.Steps.{fwdOf, bwdOf}
 use Rattle.links.specs.Field.{Field}
 use Rattle.strength.specs.declared.Density.{Density}
 use Rattle.strength.specs.Clover.{cloverOf}
-use Rattle.strength.specs.Densities.{electricOf, planeDensity, actionDensityOf, densityOf}
+use Rattle.strength.specs.Densities.{electricOf, planeDensity, actionDensityOf, chargeFactor, densityOf}
 
 -- two fields agree on the twelve links of the clover of μ and ν at n
 pub record SameClover (d : List ℕ) (U W : Field) (n mu nu : ℕ) : Type 0 where
@@ -24,18 +25,42 @@ pub record SameClover (d : List ℕ) (U W : Field) (n mu nu : ℕ) : Type 0 wher
 abbrev pub CloverIsLocal : Type 0
 CloverIsLocal = (d : List ℕ) (U W : Field) (n mu nu : ℕ) → SameClover d U W n mu nu → cloverOf d U n mu nu ≡ cloverOf d W n mu nu
 
--- two fields agree on the clovers that a density reads at n: those of one plane of time, or of all six planes
+-- in all six planes
+abbrev pub SameClovers : List ℕ → Field → Field → ℕ → Type 0
+SameClovers d U W n = (mu nu : ℕ) → mu < nu → nu < 4 → SameClover d U W n mu nu
+
+-- two fields agree on the clovers that a density reads at n
 unfoldable pub SameFor : List ℕ → Field → Field → Density → ℕ → Type 0
-SameFor d U W Density.Action n = (mu nu : ℕ) → mu < nu → nu < 4 → SameClover d U W n mu nu
-SameFor d U W Density.Charge n = (mu nu : ℕ) → mu < nu → nu < 4 → SameClover d U W n mu nu
+SameFor d U W Density.Action n = SameClovers d U W n
+SameFor d U W Density.Charge n = SameClovers d U W n
 SameFor d U W (Density.Electric axis) n = SameClover d U W n 0 (suc axis)
 
 -- then the density is the same there
 abbrev pub DensityIsLocal : Type 0
 DensityIsLocal = (d : List ℕ) (U W : Field) (kind : Density) (n : ℕ) → SameFor d U W kind n → densityOf d U kind n ≡ densityOf d W kind n
 
--- The action density first adds up the three electric densities, from +0, in the order x, y, z, and goes on with the planes of space. A sum of
--- halves would round otherwise: in f64 (e + m) + m' is not e + (m + m').
+-- ## The electric half of the action density
+
+-- the three electric densities, summed from +0
+abbrev pub electricSum : List ℕ → Field → ℕ → Float
+electricSum d U n = fzero ⊞ electricOf d U n 0 ⊞ electricOf d U n 1 ⊞ electricOf d U n 2
+
+-- 2⁻⁵³
+abbrev pub halfStep : Float
+halfStep = ofBits binary64 0x3ca0_0000_0000_0000
+
+-- The action density first adds up the three electric densities, from +0 and in the order x, y, z, and goes on with the planes of space.
 abbrev pub ActionBeginsElectric : Type 0
 ActionBeginsElectric = (d : List ℕ) (U : Field) (n : ℕ)
-    → actionDensityOf d U n ≡ fzero ⊞ electricOf d U 0 n ⊞ electricOf d U 1 n ⊞ electricOf d U 2 n ⊞ planeDensity d U n 1 2 ⊞ planeDensity d U n 1 3 ⊞ planeDensity d U n 2 3
+    → actionDensityOf d U n ≡ electricSum d U n ⊞ planeDensity d U n 1 2 ⊞ planeDensity d U n 1 3 ⊞ planeDensity d U n 2 3
+
+-- More does not hold: the action density need not be the sum of an electric and a magnetic half, since f64 sums depend on their order. 1 + t + t is 1, but
+-- 1 + (t + t) is the next f64, for t = 2⁻⁵³.
+pub record SumsDependOnOrder : Type 0 where
+  pub inTurn : fone ⊞ halfStep ⊞ halfStep ≡ fone
+  pub inHalves : fone ⊞ (halfStep ⊞ halfStep) ≡ ofBits binary64 0x3ff0_0000_0000_0001
+
+-- ## The charge's factor
+
+abbrev pub FactorBits : Type 0
+FactorBits = chargeFactor ≡ ofBits binary64 0x3f99_f02f_6222_c720

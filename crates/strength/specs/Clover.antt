@@ -14,7 +14,7 @@ use Rattle.links.specs.Field.{Field}
 use Rattle.gauge.specs.Field.{Plane}
 use Rattle.gauge.specs.Plaquette.{plaquetteOf}
 
--- ## The leaves, all around the same way. The first is the plaquette at n.
+-- ## The leaves, all with the same orientation. The first is the plaquette at n.
 
 -- U_ν(n) U_μ†(w) U_ν†(b) U_μ(b), where b is n−μ and w is n+ν−μ
 abbrev pub upperLeft : Field → ℕ → ℕ → ℕ → ℕ → ℕ → Su3

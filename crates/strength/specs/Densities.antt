@@ -25,7 +25,7 @@ planeDensity d U n mu nu = neg (traceProduct (strengthOf d U n mu nu) (strengthO
 
 -- −Tr F_0i² for the axis i of space: 0 is x
 unfoldable pub electricOf : List ℕ → Field → ℕ → ℕ → Float
-electricOf d U axis n = planeDensity d U n 0 (suc axis)
+electricOf d U n axis = planeDensity d U n 0 (suc axis)
 
 -- −Σ Tr F_μν² over the six planes, from +0
 unfoldable pub actionDensityOf : List ℕ → Field → ℕ → Float
@@ -41,7 +41,7 @@ fpi = ofBits binary64 0x4009_21fb_5444_2d18
 unfoldable pub chargeFactor : Float
 chargeFactor = div binary64 (ofBits binary64 0x4020_0000_0000_0000) (ofBits binary64 0x4040_0000_0000_0000 ⊠ fpi ⊠ fpi)
 
--- (1/32π²) ε_μνρσ Tr F_μν F_ρσ, of which three terms are left
+-- (1/32π²) ε_μνρσ Tr F_μν F_ρσ, which is 8 (Tr F_01 F_23 − Tr F_02 F_13 + Tr F_03 F_12) / 32π²
 unfoldable pub chargeDensityOf : List ℕ → Field → ℕ → Float
 chargeDensityOf d U n = chargeFactor ⊠ (traceProduct (F 0 1) (F 2 3) ⊟ traceProduct (F 0 2) (F 1 3) ⊞ traceProduct (F 0 3) (F 1 2))
   where
@@ -53,7 +53,7 @@ chargeDensityOf d U n = chargeFactor ⊠ (traceProduct (F 0 1) (F 2 3) ⊟ trace
 unfoldable pub densityOf : List ℕ → Field → Density → ℕ → Float
 densityOf d U Density.Action n = actionDensityOf d U n
 densityOf d U Density.Charge n = chargeDensityOf d U n
-densityOf d U (Density.Electric axis) n = electricOf d U axis n
+densityOf d U (Density.Electric axis) n = electricOf d U n axis
 
 -- an axis of space
 unfoldable pub InSpace : Density → Type 0

@@ -1,5 +1,5 @@
-// The clover field strength and the densities at a site of a field that fits: the list holds one of the
-// extents d, and sites and directions are in range. A site's neighbours are handed in, so that a walk over
+// The clover field strength and the densities at a site of a field that fits: the list holds a field
+// of extents d, and sites and directions are in range. A site's neighbours are handed in, so that a walk over
 // all sites needs no division.
 mod clover;
 mod densities;

@@ -7,7 +7,7 @@ use Rattle.rows.proofs.Laws.{no-row, row-holds, row-passes, refuses, accepts}
 use Rattle.geometry.specs.Shape.{Shape, fitsOf}
 use Rattle.geometry.proofs.Shape.{fits-shape, volume-high}
 use Rattle.lattice.proofs.Laws.{bad-extents, good-extents, bad-links, good-links}
-use Rattle.fields.proofs.Laws.{bad-sites, good-sites, in-space}
+use Rattle.fields.proofs.Laws.{bad-density-list, good-density-list, in-space}
 use Rattle.fields.proofs.judges.density_row.Statement.{statement}
 use Rattle.fields.proofs.judges.density_row.Tie as tie
 
@@ -30,15 +30,15 @@ returns-2 : tie.Need-returns-2
 returns-2 c = refuses 2 (row-passes 1 _ (good-extents _ (fit (c .before .before))) ∙ row-holds 3 _ (bad-links _ (rw (c .before .sites .ensures) at (c .if2 .taken))))
 
 returns-3 : tie.Need-returns-3
-returns-3 c = refuses 2 (row-passes 1 _ (good-extents _ (fit (c .before .before .before))) ∙ row-passes 3 _ (good-links _ (rw (c .before .before .sites .ensures) at (c .before .if2 .left))) ∙ row-holds 3 _ (bad-sites _ (rw (c .before .before .sites .ensures) at (c .if3 .taken))))
+returns-3 c = refuses 2 (row-passes 1 _ (good-extents _ (fit (c .before .before .before))) ∙ row-passes 3 _ (good-links _ (rw (c .before .before .sites .ensures) at (c .before .if2 .left))) ∙ row-holds 3 _ (bad-density-list _ (rw (c .before .before .sites .ensures) at (c .if3 .taken))))
 
 returns-4 : tie.Need-returns-4
-returns-4 c = refuses 4 (row-passes 1 _ (good-extents _ (fit (c .before .before .before .before .before))) ∙ row-passes 3 _ (good-links _ (rw (c .before .before .before .before .sites .ensures) at (c .before .before .before .if2 .left))) ∙ row-passes 3 _ (good-sites _ (rw (c .before .before .before .before .sites .ensures) at (c .before .before .if3 .left))) ∙ row-holds 5 _ (sym (c .before .bad-axis .ensures) ∙ c .if4 .taken))
+returns-4 c = refuses 4 (row-passes 1 _ (good-extents _ (fit (c .before .before .before .before .before))) ∙ row-passes 3 _ (good-links _ (rw (c .before .before .before .before .sites .ensures) at (c .before .before .before .if2 .left))) ∙ row-passes 3 _ (good-density-list _ (rw (c .before .before .before .before .sites .ensures) at (c .before .before .if3 .left))) ∙ row-holds 5 _ (sym (c .before .bad-axis .ensures) ∙ c .if4 .taken))
 
 returns-5 : tie.Need-returns-5
 returns-5 c =
     accepts
-    (row-passes 1 _ (good-extents _ (fit (c .before .before .before .before .before))) ∙ row-passes 3 _ (good-links _ (rw (c .before .before .before .before .sites .ensures) at (c .before .before .before .if2 .left))) ∙ row-passes 3 _ (good-sites _ (rw (c .before .before .before .before .sites .ensures) at (c .before .before .if3 .left))) ∙ row-passes 5 _ (sym (c .before .bad-axis .ensures) ∙ c .if4 .left) ∙ no-row)
+    (row-passes 1 _ (good-extents _ (fit (c .before .before .before .before .before))) ∙ row-passes 3 _ (good-links _ (rw (c .before .before .before .before .sites .ensures) at (c .before .before .before .if2 .left))) ∙ row-passes 3 _ (good-density-list _ (rw (c .before .before .before .before .sites .ensures) at (c .before .before .if3 .left))) ∙ row-passes 5 _ (sym (c .before .bad-axis .ensures) ∙ c .if4 .left) ∙ no-row)
     (shape (c .before .before .before .before .before), rw (c .before .before .before .before .sites .ensures) at (c .before .before .before .if2 .left), rw (c .before .before .before .before .sites .ensures) at (c .before .before .if3 .left), in-space _ (sym (c .before .bad-axis .ensures) ∙ c .if4 .left))
 
 pub density-row-spec : {M : Type 1} → statement M

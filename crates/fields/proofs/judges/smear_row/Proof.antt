@@ -7,8 +7,8 @@ use Rattle.rows.proofs.Laws.{no-row, row-holds, row-passes, refuses, accepts}
 use Rattle.geometry.specs.Shape.{Shape, fitsOf}
 use Rattle.geometry.proofs.Shape.{fits-shape, volume-high}
 use Rattle.lattice.proofs.Laws.{bad-extents, good-extents, bad-links, good-links}
-use Rattle.fields.proofs.judges.step_row.Statement.{statement}
-use Rattle.fields.proofs.judges.step_row.Tie as tie
+use Rattle.fields.proofs.judges.smear_row.Statement.{statement}
+use Rattle.fields.proofs.judges.smear_row.Tie as tie
 
 fit : (c : tie.Else1) → fitsOf (c .before .before .args .d) ≡ true
 fit c = sym (c .before .fits2 .ensures) ∙ not-false _ (c .if1 .left)
@@ -40,5 +40,5 @@ returns-4 c =
     (row-passes 1 _ (good-extents _ (fit (c .before .before .before))) ∙ row-passes 3 _ (good-links _ (rw (c .before .before .sites .ensures) at (c .before .if2 .left))) ∙ row-passes 3 _ (good-links _ (rw (c .before .before .sites .ensures) at (c .if3 .left))) ∙ no-row)
     (shape (c .before .before .before), rw (c .before .before .sites .ensures) at (c .before .if2 .left), rw (c .before .before .sites .ensures) at (c .if3 .left))
 
-pub step-row-spec : {M : Type 1} → statement M
-step-row-spec = tie.close (tie.spec (λ c κs. search needs) returns sites-requires mul-if2 returns-2 mul-if3 returns-3 returns-4)
+pub smear-row-spec : {M : Type 1} → statement M
+smear-row-spec = tie.close (tie.spec (λ c κs. search needs) returns sites-requires mul-if2 returns-2 mul-if3 returns-3 returns-4)
