@@ -1,7 +1,7 @@
 -- Matrices, blocks and quaternions as the arrays of numbers in which a host hands them over: row by row, real first.
 use Prim.Native.Nat.{ℕ}
 use mathlib.Core.Path.{_≡_}
-use mathlib.Core.List.{List, [], _∷_}
+use mathlib.Core.List.{List, [], _∷_, _++_}
 use lib.ListN.{getD}
 use lib.Ieee.{Float, nan}
 use Rattle.rows.specs.Rows.{ifAccepted}
@@ -17,6 +17,8 @@ use Rattle.links.specs.Store.{cellAt, matrixAt}
 use Rattle.lattice.specs.declared.Plan.{Plan}
 use Rattle.lattice.specs.declared.CoordsAnswer.{CoordsAnswer}
 use Rattle.lattice.specs.declared.LoopAnswer.{LoopAnswer}
+use Rattle.fields.specs.declared.StrengthAnswer.{StrengthAnswer}
+use Rattle.fields.specs.Situations.{nthMatrix}
 
 -- ## What an array holds
 
@@ -43,6 +45,12 @@ matrixNumbers u =
     ∷ ent u 3 .re ∷ ent u 3 .im ∷ ent u 4 .re ∷ ent u 4 .im ∷ ent u 5 .re ∷ ent u 5 .im
     ∷ ent u 6 .re ∷ ent u 6 .im ∷ ent u 7 .re ∷ ent u 7 .im ∷ ent u 8 .re ∷ ent u 8 .im ∷ []
 
+-- six matrices, plane by plane
+unfoldable pub planeNumbers : List Su3 → List Float
+planeNumbers f =
+    matrixNumbers (nthMatrix f 0) ++ matrixNumbers (nthMatrix f 1) ++ matrixNumbers (nthMatrix f 2)
+    ++ matrixNumbers (nthMatrix f 3) ++ matrixNumbers (nthMatrix f 4) ++ matrixNumbers (nthMatrix f 5)
+
 unfoldable pub blockNumbers : Mat2 → List Float
 blockNumbers w =
     w .m00 .re ∷ w .m00 .im ∷ w .m01 .re ∷ w .m01 .im ∷ w .m10 .re ∷ w .m10 .im ∷ w .m11 .re ∷ w .m11 .im ∷ []
@@ -59,6 +67,9 @@ pub record Given {A : Type 0} (row : ℕ) (new : List A) (r : ℕ) (out : List A
 
 abbrev pub MatrixGiven : MatrixAnswer → ℕ → List Float → Type 0
 MatrixGiven a r out = Given (a .refusal) (matrixNumbers (a .matrix)) r out
+
+abbrev pub StrengthGiven : StrengthAnswer → ℕ → List Float → Type 0
+StrengthGiven a r out = Given (a .refusal) (planeNumbers (a .f)) r out
 
 abbrev pub BlockGiven : BlockAnswer → ℕ → List Float → Type 0
 BlockGiven a r out = Given (a .refusal) (blockNumbers (a .block)) r out
