@@ -8,10 +8,11 @@ use std::path::{Path, PathBuf};
 const RUST: &str = "JAMJUNE_RUST";
 
 /// The reference files in use, and what is appended to a file's copy to reach what it keeps private.
-const MODULES: [(&str, &str); 3] = [
+const MODULES: [(&str, &str); 4] = [
     ("rng", include_str!("access/rng.rs")),
     ("mat", ""),
     ("lattice", include_str!("access/lattice.rs")),
+    ("fields", ""),
 ];
 
 fn main() {

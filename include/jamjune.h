@@ -20,14 +20,14 @@
  *
  *    1   an extent is odd, below 2 or above 16
  *    2   the coupling is not finite, below 0 or above 100 (-0 passes)
- *    3   the list of links has not 72 numbers per site
+ *    3   a list of links, read or written, has not 72 numbers per site, or a density's list not one per site
  *    4   a site is not below the number of sites, or a coordinate not below its extent
- *    5   a direction is above 3, a plane's two directions are equal, or a subgroup is above 2
+ *    5   a direction is above 3, a plane's two directions are equal, or a subgroup or an axis of space is above 2
  *    6   a parity is above 1
  *    7   the pass is the last one, 2^64 - 1
  *    8   a job has visited above half the sites, stuck above visited, a direction above 3 or a parity above 1
  *    9   the link is stuck
- *   10   a number to be answered is not finite
+ *   10   a number to be answered or stored is not finite
  *   12   the list for unsound links has fewer than 4 places per site
  *
  * Calls that name no row refuse nothing: every input has a defined answer, infinities and NaN included. */
@@ -216,5 +216,39 @@ uint32_t jj_frame_overrelax(uint64_t job[9], size_t size, double *links, size_t 
 
 /* out = 1 where the job has visited all sites of its parity, half of all; else 0. Rows 1, 8. */
 uint32_t jj_finished(const uint64_t job[9], uint32_t out[1]);
+
+/* ---- smearing, field strength and densities: n is the length of links, m that of the list to be filled
+ *
+ * links is only read. The list to be filled may hold anything before; accepted, every place of it is written; refused, row
+ * 10 included, none is: no number is stored before all are known to be finite. */
+
+/* out = the stout-smeared link of direction mu at a site: exp(x) u, where u is the link, a the sum of its six staples, x
+ * the anti-Hermitian traceless part of u a, times -rho, and exp as by jj_su3_exp_antihermitian. rho may be anything.
+ * Rows 1, 3, 4, 5, 10. */
+uint32_t jj_stout_link(const size_t ext[4], size_t site, size_t mu, double rho, const double *links, size_t n, double out[18]);
+
+/* One step of stout smearing: each link of smeared becomes what jj_stout_link gives for it from links, all of them from
+ * the unsmeared field. To smear again, lend the two lists the other way round. Rows 1, 3, 10. */
+uint32_t jj_stout_step(const size_t ext[4], double rho, const double *links, size_t n, double *smeared, size_t m);
+
+/* out = the sum of the four plaquettes that touch a site in a plane, each run through from the site and turning from
+ * direction mu towards nu. Rows 1, 3, 4, 5, 10. */
+uint32_t jj_clover_leaves(const size_t ext[4], size_t site, size_t mu, size_t nu, const double *links, size_t n, double out[18]);
+
+/* out = the field strength F at a site: six matrices, one after the other, for the planes of directions 01, 02, 03, 12,
+ * 13, 23. Each is a quarter of the anti-Hermitian traceless part of the plane's clover leaves. Rows 1, 3, 4, 10. */
+uint32_t jj_field_strength_at(const size_t ext[4], size_t site, const double *links, size_t n, double out[108]);
+
+/* density = for each site in ascending order, the sum of minus the real trace of F F over the six planes, in the order
+ * above from +0. Rows 1, 3, 10. */
+uint32_t jj_action_density(const size_t ext[4], const double *links, size_t n, double *density, size_t m);
+
+/* density = for each site in ascending order, 1 / (4 pi^2) times the real trace of F01 F23 - F02 F13 + F03 F12: summed
+ * over a smooth field, about an integer. Rows 1, 3, 10. */
+uint32_t jj_topological_charge_density(const size_t ext[4], const double *links, size_t n, double *density, size_t m);
+
+/* density = for each site in ascending order, minus the real trace of F F in the plane of t and an axis of space: 0 for
+ * x, 1 for y, 2 for z. Rows 1, 3, 5, 10. */
+uint32_t jj_electric_sq(const size_t ext[4], size_t axis, const double *links, size_t n, double *density, size_t m);
 
 #endif

@@ -1,8 +1,13 @@
-//! The calls of the lattice and of the sweep, on both sides: what the library answers, and what the
-//! document and the reference say.
+//! The calls of the lattice, of the sweep and of the fields, on both sides: what the library answers,
+//! and what the document and the reference say.
 
+mod fields;
 mod sweep;
 
+pub use fields::{
+    ACTION_DENSITY, CLOVER_LEAVES, ELECTRIC_SQ, FIELD_STRENGTH_AT, STOUT_LINK, STOUT_STEP,
+    TOPOLOGICAL_CHARGE_DENSITY, action_density, smeared,
+};
 pub use sweep::{FINISHED, FRAME_OVERRELAX, OPEN_OVERRELAX, OVERRELAX_LINK};
 
 use crate::face;
@@ -181,7 +186,7 @@ pub const LINK_CHECK: Call = Call {
     }),
 };
 
-pub const CALLS: [Call; 17] = [
+pub const CALLS: [Call; 24] = [
     N_SITES,
     COORDS,
     INDEX,
@@ -199,6 +204,13 @@ pub const CALLS: [Call; 17] = [
     OPEN_OVERRELAX,
     FRAME_OVERRELAX,
     FINISHED,
+    STOUT_LINK,
+    STOUT_STEP,
+    CLOVER_LEAVES,
+    FIELD_STRENGTH_AT,
+    ACTION_DENSITY,
+    TOPOLOGICAL_CHARGE_DENSITY,
+    ELECTRIC_SQ,
 ];
 
 impl Call {

@@ -7,10 +7,12 @@
 
 #![allow(unsafe_code)]
 
+mod fields;
 mod lattice;
 mod mat;
 mod sweep;
 
+pub use fields::*;
 pub use lattice::*;
 pub use mat::*;
 pub use sweep::*;

@@ -12,6 +12,7 @@ mod fields;
 mod flat;
 mod generator;
 mod geometry;
+mod gluons;
 mod ground;
 mod inputs;
 mod lattice;
@@ -35,7 +36,7 @@ use tally::Tally;
 /// A group of calls: its name, and what compares all its calls.
 type Group = (&'static str, fn(&mut Tally));
 
-const GROUPS: [Group; 9] = [
+const GROUPS: [Group; 10] = [
     ("words", words::compare),
     ("root", root::compare),
     ("generator", generator::compare),
@@ -43,6 +44,7 @@ const GROUPS: [Group; 9] = [
     ("geometry", geometry::compare),
     ("lattice", lattice::compare),
     ("sweep", sweep::compare),
+    ("fields", gluons::compare),
     ("refusals", refusals::compare),
     ("replay", replay::compare),
 ];

@@ -5,13 +5,15 @@ use crate::calls::{CALLS, Call, OVERRELAX_LINK};
 use crate::face::Four;
 use crate::fields::{self, KINDS};
 use crate::ground::{Ground, Lent, Lists};
-use crate::rows::{Arguments, Job, Part};
+use crate::rows::{self, Arguments, Job, Part};
 use crate::tally::Tally;
 
 /// The two extents that are good here; the list of links is as long as the second ones want.
 const GOOD: [Four; 2] = [[2, 2, 2, 2], [4, 2, 2, 2]];
 const LINKS: usize = 72 * 32;
 const FOUND: usize = 4 * 32;
+/// The second list is as long as the list of links.
+const SECOND: usize = LINKS;
 
 /// Each in each place of the first good ones.
 const BAD_SIDES: [usize; 9] = [0, 1, 3, 17, 18, 1 << 32, 1 << 60, 1 << 63, usize::MAX];
@@ -60,6 +62,10 @@ const COORDINATES: [Four; 9] = [
 const PARITIES: [usize; 5] = [0, 1, 2, 1 << 32, usize::MAX];
 const PASSES: [u64; 5] = [0, 7, 1 << 63, u64::MAX - 1, u64::MAX];
 const SIZES: [usize; 4] = [0, 1, 5, usize::MAX];
+const RHOS: [f64; 4] = [0.1, -0.0, 1e200, f64::NAN];
+const AXES: [usize; 6] = [0, 1, 2, 3, 1 << 32, usize::MAX];
+const SMEARED: [usize; 8] = [1152, 1151, 1153, 0, 16, 64, SECOND - 1, SECOND];
+const DENSITIES: [usize; 8] = [16, 15, 17, 0, 31, 32, 1152, SECOND];
 
 /// Half the sites is 8 under the first good extents and 16 under the second.
 const JOBS: [Job; 24] = [
@@ -104,15 +110,18 @@ const fn job([direction, parity, visited, stuck, pass]: [u64; 5]) -> Job {
 /// with the row's number.
 type Example = (u32, Part, fn(&mut Arguments));
 
-const EXAMPLES: [Example; 15] = [
+const EXAMPLES: [Example; 18] = [
     (1, Part::Extents, |a| a.ext = [3, 2, 2, 2]),
     (1, Part::Extents, |a| a.ext = [2, 2, 2, 18]),
     (2, Part::Coupling, |a| a.coupling = -1.0),
     (3, Part::Links, |a| a.links = &a.links[..1151]),
+    (3, Part::Smeared, |a| a.second = &a.second[..1151]),
+    (3, Part::Density, |a| a.second = &a.second[..15]),
     (4, Part::Site, |a| a.site = 16),
     (4, Part::Coordinates, |a| a.at = [0, 2, 0, 0]),
     (5, Part::Direction, |a| a.mu = 4),
     (5, Part::Other, |a| (a.mu, a.nu) = (1, 1)),
+    (5, Part::Axis, |a| a.axis = 3),
     (6, Part::Parity, |a| a.parity = 2),
     (7, Part::Pass, |a| a.pass = u64::MAX),
     (8, Part::Job, |a| a.job.visited = 9),
@@ -122,13 +131,20 @@ const EXAMPLES: [Example; 15] = [
     (12, Part::Room, |a| a.found = &a.found[..63]),
 ];
 
-/// The calls that row 10 can refuse: those that answer numbers of the links.
-const ANSWER_NUMBERS: [&str; 5] = [
+/// The calls that row 10 can refuse: those that answer or store numbers of the links.
+const ANSWER_NUMBERS: [&str; 12] = [
     "jj_plaquette",
     "jj_staple",
     "jj_average_plaquette",
     "jj_action",
     "jj_polyakov_loop",
+    "jj_stout_link",
+    "jj_stout_step",
+    "jj_clover_leaves",
+    "jj_field_strength_at",
+    "jj_action_density",
+    "jj_topological_charge_density",
+    "jj_electric_sq",
 ];
 
 pub fn compare(tally: &mut Tally) {
@@ -152,7 +168,7 @@ impl Bench {
     fn new(kind: &'static str) -> Self {
         let number = fields::number_of(kind);
         let links = fields::links(&KINDS[number], GOOD[1], 1);
-        let lists = Lists::new(links, vec![u32::MAX; FOUND]);
+        let lists = Lists::new(links, vec![u32::MAX; FOUND]).and_second(SECOND);
         let label = [number as u64, 1];
         Self {
             kind,
@@ -164,7 +180,7 @@ impl Bench {
     /// With the numbers written here, and not by the rows.
     fn examples(&self, tally: &mut Tally, call: &Call) {
         let (ground, lent) = (&self.grounds[0], &self.lent);
-        let good = lent.arguments(GOOD[0], 1152, 64);
+        let good = good(call, lent);
         for (row, part, spoil) in EXAMPLES {
             if call.takes.contains(&part) {
                 let mut a = good;
@@ -183,7 +199,7 @@ impl Bench {
     /// Everything that the call takes with everything else.
     fn crossed(&mut self, tally: &mut Tally, call: &Call) {
         let lent = &self.lent;
-        let good = lent.arguments(GOOD[0], 1152, 64);
+        let good = good(call, lent);
         let all = call.takes.iter().fold(vec![good], |all, &part| {
             all.iter().flat_map(|a| variants(part, a, lent)).collect()
         });
@@ -191,6 +207,15 @@ impl Bench {
             let second = a.ext == GOOD[1];
             self.grounds[usize::from(second)].check(tally, call, &a, lent);
         }
+    }
+}
+
+/// Arguments that are good under the first extents.
+fn good<'a>(call: &Call, lent: &'a Lent) -> Arguments<'a> {
+    let second = rows::second(call.takes).map_or(0, |each| 16 * each);
+    Arguments {
+        second: &lent.second[..second],
+        ..lent.arguments(GOOD[0], 1152, 64)
     }
 }
 
@@ -213,6 +238,16 @@ fn variants<'a>(part: Part, a: &Arguments<'a>, lent: &'a Lent) -> Vec<Arguments<
         Part::Size => of(SIZES, |size| Arguments { size, ..*a }),
         Part::Room => of(ROOMS, |n| Arguments {
             found: &lent.found[..n],
+            ..*a
+        }),
+        Part::Rho => of(RHOS, |rho| Arguments { rho, ..*a }),
+        Part::Axis => of(AXES, |axis| Arguments { axis, ..*a }),
+        Part::Smeared => of(SMEARED, |n| Arguments {
+            second: &lent.second[..n],
+            ..*a
+        }),
+        Part::Density => of(DENSITIES, |n| Arguments {
+            second: &lent.second[..n],
             ..*a
         }),
     }

@@ -1,10 +1,11 @@
-//! The document's table of refusals, for the calls of matrices, lattice and sweep: from what a call
-//! is handed to the number of the first row that holds.
+//! The document's table of refusals, for the calls of matrices, lattice, sweep and fields: from what a
+//! call is handed to the number of the first row that holds.
 
 use crate::face::{self, Four};
 use std::cell::Cell;
 
-/// What a call of the lattice or of the sweep can be handed. A job's extents are `Extents`.
+/// What a call of the lattice, of the sweep or of the fields can be handed. A job's extents are
+/// `Extents`.
 #[derive(Clone, Copy, PartialEq)]
 pub enum Part {
     Extents,
@@ -21,6 +22,14 @@ pub enum Part {
     /// Of a frame; nothing judges it.
     Size,
     Room,
+    /// Of a smearing; nothing judges it.
+    Rho,
+    /// Of the electric field: 0, 1, 2 for x, y, z.
+    Axis,
+    /// The second list, for smeared links.
+    Smeared,
+    /// The second list, for one number of each site.
+    Density,
 }
 
 /// A job but for its extents.
@@ -65,6 +74,9 @@ pub struct Arguments<'a> {
     pub job: Job,
     pub size: usize,
     pub found: &'a [Cell<u32>],
+    pub rho: f64,
+    pub axis: usize,
+    pub second: &'a [Cell<f64>],
 }
 
 impl Arguments<'_> {
@@ -100,7 +112,7 @@ pub fn of_subgroup(subgroup: usize) -> u32 {
     if subgroup > 2 { 5 } else { 0 }
 }
 
-/// Row 10: a number to be answered is not finite.
+/// Row 10: a number to be answered or stored is not finite.
 pub fn not_finite(numbers: &[f64]) -> bool {
     numbers.iter().any(|x| !x.is_finite())
 }
@@ -117,9 +129,19 @@ fn coupling(parts: &[Part], a: &Arguments) -> bool {
     parts.contains(&Part::Coupling) && !good
 }
 
-/// A list of links that has not 72 numbers for each site.
+/// A list of links that has not 72 numbers for each site, or a second list of wrong length.
 fn lengths(parts: &[Part], a: &Arguments) -> bool {
-    parts.contains(&Part::Links) && a.links.len() != 72 * a.sites()
+    let links = parts.contains(&Part::Links) && a.links.len() != 72 * a.sites();
+    links || second(parts).is_some_and(|each| a.second.len() != each * a.sites())
+}
+
+/// How many numbers for each site the second list has, where a call that takes these parts has one.
+pub fn second(parts: &[Part]) -> Option<usize> {
+    parts.iter().find_map(|part| match part {
+        Part::Smeared => Some(72),
+        Part::Density => Some(1),
+        _ => None,
+    })
 }
 
 /// A site not below the sites, or a coordinate not below its extent.
@@ -129,10 +151,11 @@ fn places(parts: &[Part], a: &Arguments) -> bool {
     site || (parts.contains(&Part::Coordinates) && outside())
 }
 
-/// A direction above 3, or a plane's two equal.
+/// A direction above 3, a plane's two equal, or an electric axis above 2.
 fn directions(parts: &[Part], a: &Arguments) -> bool {
     let one = parts.contains(&Part::Direction) && a.mu > 3;
-    one || (parts.contains(&Part::Other) && (a.nu > 3 || a.mu == a.nu))
+    let axis = parts.contains(&Part::Axis) && a.axis > 2;
+    one || axis || (parts.contains(&Part::Other) && (a.nu > 3 || a.mu == a.nu))
 }
 
 /// A parity above 1.

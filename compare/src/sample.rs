@@ -45,8 +45,10 @@
 //! numbers are +0; 1, number p is NaN; 2, +infinity; 3, 1e200; 4, 2^-1074; 5, all are multiplied by
 //! 1e-13; 6, number p is -0; 7, all are multiplied by 1e160.
 //!
-//! The overrelaxation comes last: its file has its lines.
+//! The overrelaxation comes after these, and smearing, clover and densities come last: their files
+//! have their lines.
 
+mod fields;
 mod hash;
 mod sweep;
 
@@ -55,7 +57,7 @@ use crate::calls::{
     unsound,
 };
 use crate::face::{Four, Mat};
-use crate::fields::{self, Kind};
+use crate::fields::{self as kinds, Kind};
 use crate::flat;
 use crate::ground::Lists;
 use crate::mat::{self, Pair};
@@ -69,7 +71,7 @@ type Make = fn(&mut Rng) -> Mat;
 
 const SEED: u64 = 20_261_115;
 const PAIRS: u64 = 400;
-const SETS: [(&str, Make); 2] = [("raw", fields::raw), ("units", fields::units)];
+const SETS: [(&str, Make); 2] = [("raw", kinds::raw), ("units", kinds::units)];
 const EXTENTS: [Four; 3] = [[2, 2, 2, 2], [4, 2, 2, 2], [2, 6, 4, 2]];
 const COUPLING: f64 = 5.75;
 const PLANES: [[usize; 2]; 6] = [[0, 1], [0, 2], [0, 3], [1, 2], [1, 3], [2, 3]];
@@ -84,11 +86,12 @@ fn all(to: &mut String) -> std::fmt::Result {
     arithmetic(to)?;
     for ext in EXTENTS {
         geometry(to, ext)?;
-        for kind in fields::sampled() {
+        for kind in kinds::sampled() {
             field(to, kind, ext)?;
         }
     }
-    sweep::lines(to)
+    sweep::lines(to)?;
+    fields::lines(to)
 }
 
 fn arithmetic(to: &mut String) -> std::fmt::Result {
@@ -126,7 +129,7 @@ fn geometry(to: &mut String, ext: Four) -> std::fmt::Result {
 }
 
 fn field(to: &mut String, kind: &Kind, ext: Four) -> std::fmt::Result {
-    let links = fields::links(kind, ext, SEED);
+    let links = kinds::links(kind, ext, SEED);
     let lattice = &mut flat::lattice(ext, &links);
     let lent = Lists::new(links.clone(), vec![]).lend();
     let a = Arguments {

@@ -4,9 +4,10 @@ use std::fmt;
 use std::hint::black_box;
 use std::time::{Duration, Instant};
 
-/// A row takes this long, and this many rounds at least.
+/// A row takes this long, and this many rounds at least, but none begins after the longer time.
 const SPAN: Duration = Duration::from_millis(600);
 const ROUNDS: usize = 10;
+const LONG: Duration = Duration::from_millis(1500);
 
 /// A row of the table: nanoseconds a call on each side.
 pub struct Row {
@@ -21,14 +22,26 @@ impl Row {
     pub fn race<F: Copy>(
         call: &'static str,
         calls: usize,
+        sides: [F; 2],
+        pass: impl FnMut(F) -> u64,
+    ) -> Self {
+        Self::race_after(call, calls, sides, || (), pass)
+    }
+
+    /// The same with something done before each pass, which is not timed.
+    pub fn race_after<F: Copy>(
+        call: &'static str,
+        calls: usize,
         [rattle, rust]: [F; 2],
+        mut before: impl FnMut(),
         mut pass: impl FnMut(F) -> u64,
     ) -> Self {
         let mut best = [Duration::MAX; 2];
         let start = Instant::now();
         let mut rounds = 0;
-        while rounds < ROUNDS || start.elapsed() < SPAN {
+        while another(rounds, start.elapsed(), SPAN) {
             for (best, side) in best.iter_mut().zip([rattle, rust]) {
+                before();
                 *best = time(&mut pass, side).min(*best);
             }
             rounds += 1;
@@ -43,11 +56,15 @@ pub fn best(calls: usize, mut pass: impl FnMut() -> u64) -> f64 {
     let start = Instant::now();
     let mut best = Duration::MAX;
     let mut rounds = 0;
-    while rounds < ROUNDS || start.elapsed() < SPAN / 4 {
+    while another(rounds, start.elapsed(), SPAN / 4) {
         best = time(&mut |()| pass(), ()).min(best);
         rounds += 1;
     }
     best.as_nanos() as f64 / calls as f64
+}
+
+fn another(rounds: usize, elapsed: Duration, span: Duration) -> bool {
+    elapsed < span || (rounds < ROUNDS && elapsed < LONG)
 }
 
 /// One pass. It is not inlined and the function is hidden from it, so that both sides run through

@@ -7,6 +7,7 @@
 //! A row of two or three nanoseconds moves by a few cycles with the addresses that code comes to
 //! stand at: its ratio says something only where it stays the same from build to build.
 
+mod fields;
 mod lattice;
 mod mat;
 mod sweep;
@@ -58,6 +59,7 @@ pub fn print() {
         .into_iter()
         .chain(lattice::rows())
         .chain(sweep::rows())
+        .chain(fields::rows())
     {
         println!("{row}");
     }

@@ -1,4 +1,4 @@
-//! The lines of the overrelaxation, after all others. First, for `raw` and then for `units`,
+//! The lines of the overrelaxation, after those of every field. First, for `raw` and then for `units`,
 //!
 //!     SET update_link HASH
 //!

@@ -6,7 +6,7 @@
 use crate::face::{self, Four};
 use crate::fields::{self, Kind};
 use crate::flat;
-use crate::ground::{Lent, Lists, changed};
+use crate::ground::{Lent, Lists, UNCHANGED, changed};
 use crate::reference::su3::lattice::Su3Lattice;
 use crate::rows::Job;
 use crate::tally::{Tally, Words, answer};
@@ -124,7 +124,9 @@ impl Field {
         let rattle = answer(refusal, job.into_iter().chain(kept.concat()));
         let rust = answer(
             if refused { 3 } else { 0 },
-            due.over(self.ext).into_iter().chain([0; 4]),
+            due.over(self.ext)
+                .into_iter()
+                .chain([UNCHANGED; 2].concat()),
         );
         tally.check("jj_frame_overrelax", &inputs, &rattle, &rust);
         run.job = job;

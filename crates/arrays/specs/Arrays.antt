@@ -1,5 +1,6 @@
 -- Matrices, blocks and quaternions as the arrays of numbers in which a host hands them over: row by row, real first.
-use mathlib.Core.List.{List, [], _∷_}
+use Prim.Native.Nat.{ℕ}
+use mathlib.Core.List.{List, [], _∷_, _++_}
 use lib.ListN.{getD}
 use lib.Ieee.{Float, nan}
 use Rattle.complex.specs.declared.C64.{C64}
@@ -33,6 +34,15 @@ matrixNumbers u =
     ent u 0 .re ∷ ent u 0 .im ∷ ent u 1 .re ∷ ent u 1 .im ∷ ent u 2 .re ∷ ent u 2 .im
     ∷ ent u 3 .re ∷ ent u 3 .im ∷ ent u 4 .re ∷ ent u 4 .im ∷ ent u 5 .re ∷ ent u 5 .im
     ∷ ent u 6 .re ∷ ent u 6 .im ∷ ent u 7 .re ∷ ent u 7 .im ∷ ent u 8 .re ∷ ent u 8 .im ∷ []
+
+-- six matrices, plane by plane
+abbrev pub nthMatrix : List Su3 → ℕ → Su3
+nthMatrix f p = getD f p (record { m = [] })
+
+unfoldable pub planeNumbers : List Su3 → List Float
+planeNumbers f =
+    matrixNumbers (nthMatrix f 0) ++ matrixNumbers (nthMatrix f 1) ++ matrixNumbers (nthMatrix f 2)
+    ++ matrixNumbers (nthMatrix f 3) ++ matrixNumbers (nthMatrix f 4) ++ matrixNumbers (nthMatrix f 5)
 
 unfoldable pub blockNumbers : Mat2 → List Float
 blockNumbers w =

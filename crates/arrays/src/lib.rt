@@ -1,7 +1,7 @@
 // What a host hands over as numbers, and back; an enum answer as its two numbers.
 ghost use mathlib.Core.Path.{_≡_};
 ghost use Rattle.rows.specs.Answers.{countRefusal, countValue, numberRefusal, numberValue};
-ghost use Rattle.arrays.specs.Arrays.{matrixIn, blockIn, quatIn, pairNumbers, matrixNumbers, blockNumbers, quatNumbers};
+ghost use Rattle.arrays.specs.Arrays.{matrixIn, blockIn, quatIn, pairNumbers, matrixNumbers, planeNumbers, blockNumbers, quatNumbers};
 use complex::C64;
 use mat::Su3;
 use quat::Mat2;
@@ -71,6 +71,20 @@ pub fn matrix_numbers(u: Su3) -> [f64; 18]
         c8.re,
         c8.im,
     ]
+}
+
+// Six matrices, one after the other.
+pub fn plane_numbers(f: [Su3; 6]) -> [f64; 108]
+    ensures { λ r. ⌜ r ≡ planeNumbers f ⌝ }
+{
+    let mut out = [0.0; 108];
+    for p in 0..6 {
+        let m = matrix_numbers(f[p]);
+        for i in 0..18 {
+            out[18 * p + i] = m[i];
+        }
+    }
+    out
 }
 
 pub fn block(a: [f64; 8]) -> Mat2

@@ -23,7 +23,9 @@ use Rattle.sweep.specs.declared.Job.{Job}
 use Rattle.sweep.specs.declared.Opened.{Opened}
 use Rattle.sweep.specs.declared.Framed.{Framed}
 use Rattle.sweep.specs.Jobs.{FrameCall}
-use Rattle.export.specs.Face.{CountGiven, NumberGiven}
+use Rattle.fields.specs.declared.ListAnswer.{ListAnswer}
+use Rattle.fields.specs.Calls.{Filled}
+use Rattle.export.specs.Face.{Given, CountGiven, NumberGiven}
 use Rattle.export.specs.Jobs.{jobIn, jobNumbers, OpenGiven, FrameGiven}
 
 pub count-given : {row n r v : ℕ} {a : Count} → IsCount row n a → r ≡ countRefusal a → v ≡ countValue a → CountGiven row n r (v ∷ [])
@@ -67,3 +69,8 @@ module _ {old : List ℕ} {size : ℕ} {l m : List Float} {j : Job} {a : Framed}
 pub flag : (b : Bool) → boolByte b ≡ cond b 1 0
 flag true = refl
 flag false = refl
+
+-- ## Lists that a call fills
+
+pub list-given : {row : ℕ} {new old exit : List Float} {a : ListAnswer} → Filled row new old a exit → Given row (ifAccepted row new old) (a .refusal) exit
+list-given h = record { refusal = rw (h .answer); array = h .list }

@@ -10,7 +10,8 @@ use Rattle.complex.specs.Rounded.{fzero}
 use Rattle.lattice.specs.declared.Plan.{Plan}
 use Rattle.lattice.specs.declared.CoordsAnswer.{CoordsAnswer}
 use Rattle.lattice.specs.declared.LoopAnswer.{LoopAnswer}
-use Rattle.arrays.specs.Arrays.{matrixNumbers, blockNumbers}
+use Rattle.fields.specs.declared.StrengthAnswer.{StrengthAnswer}
+use Rattle.arrays.specs.Arrays.{matrixNumbers, planeNumbers, blockNumbers}
 
 -- the refusal's number that a call returns, and what its array holds at the end
 pub record Given {A : Type 0} (row : ℕ) (new : List A) (r : ℕ) (out : List A) : Type 0 where
@@ -19,6 +20,9 @@ pub record Given {A : Type 0} (row : ℕ) (new : List A) (r : ℕ) (out : List A
 
 abbrev pub MatrixGiven : MatrixAnswer → ℕ → List Float → Type 0
 MatrixGiven a r out = Given (a .refusal) (matrixNumbers (a .matrix)) r out
+
+abbrev pub StrengthGiven : StrengthAnswer → ℕ → List Float → Type 0
+StrengthGiven a r out = Given (a .refusal) (planeNumbers (a .f)) r out
 
 abbrev pub BlockGiven : BlockAnswer → ℕ → List Float → Type 0
 BlockGiven a r out = Given (a .refusal) (blockNumbers (a .block)) r out

@@ -7,4 +7,6 @@ mod lists;
 mod matrices;
 mod observables;
 mod sites;
+mod smearing;
+mod strengths;
 mod sweeps;
