@@ -5,7 +5,7 @@ use crate::Su3;
 use complex::C64;
 
 // Entry (i, j) of a·b.
-fn row_col(a: Su3, b: Su3, i: usize, j: usize) -> C64
+pub fn row_col(a: Su3, b: Su3, i: usize, j: usize) -> C64
     requires { ⌜ (i < 3) × (j < 3) ⌝ }
     ensures { λ r. ⌜ r ≡ rowCol a b i j ⌝ }
 {

@@ -18,7 +18,7 @@ loop-holds c = (omega arith, term-none _, series-none _)
 
 loop-again : tie.Need-loop-again Inv-loop μ-loop
 loop-again c =
-    let t : _ = term-next _ _ (c .before .before .before .before .before .loop .inv .1) (c .before .before .before .mul .ensures) (c .before .scale .ensures) in
+    let t : _ = term-next _ _ (c .before .before .before .before .before .loop .inv .1) (c .before .before .before .times .ensures) (c .before .scale .ensures) in
     (omega arith, t, series-next _ _ (c .before .before .before .before .before .loop .inv .2) t (c .add .ensures))
 
 returns : tie.Need-returns Inv-loop μ-loop
