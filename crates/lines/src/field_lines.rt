@@ -31,7 +31,7 @@ pub fn over_links(links: &[f64]) -> Fnv {
 }
 
 // Adds a matrix to the hash, and where it is refused its refusal number alone.
-fn matrix(h: Fnv, r: MatrixAnswer) -> Fnv {
+pub fn matrix(h: Fnv, r: MatrixAnswer) -> Fnv {
     if r.refusal == 0 {
         return h.matrix(r.matrix);
     }

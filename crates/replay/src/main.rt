@@ -42,4 +42,5 @@ fn main() {
     let mut links = [0.0; 6912];
     lattice_lines([2, 6, 4, 2], &mut links);
     sweep_part();
+    gluons::all_lines();
 }
