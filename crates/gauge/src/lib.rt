@@ -1,4 +1,4 @@
-// Observables and staples of a field that fits: the list holds one of the extents d, and sites and
+// Observables and staples of a field that fits: the list holds a field of extents d, and sites and
 // directions are in range. The crates above judge what a host hands in.
 mod paired;
 mod plaquettes;
@@ -8,5 +8,6 @@ mod staples;
 pub use plaquettes::action;
 pub use plaquettes::average_plaquette;
 pub use plaquettes::plaquette;
+pub use plaquettes::plaquette_at;
 pub use polyakov::polyakov_loop;
 pub use staples::staple;

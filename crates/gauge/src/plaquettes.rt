@@ -11,7 +11,25 @@ ghost use Rattle.links.specs.Store.{TwoMatrices};
 ghost use Rattle.gauge.specs.Field.{linkOf, Holds, Plane};
 ghost use Rattle.gauge.specs.Plaquette.{plaquetteAt, diagonalAt, plaquetteOf, planesSum, averageOf, actionOf, Corners};
 
-// The plaquette in the plane of mu and nu.
+// The plaquette in the plane of mu and nu: f is n + mu, g is n + nu.
+pub fn plaquette_at(
+    links: &[f64],
+    v: usize,
+    mu: usize,
+    nu: usize,
+    n: usize,
+    f: usize,
+    g: usize,
+) -> Su3
+    requires { ⌜ Corners (now links) v mu nu n f g ⌝ }
+    ensures { λ r. ⌜ r ≡ plaquetteAt (fieldOf v (now (links .entry))) mu nu n f g ⌝ }
+{
+    let a = links::mul_at(links, links::place(v, mu, n), links::place(v, nu, f));
+    let b = links::mul_at(links, links::place(v, nu, n), links::place(v, mu, g));
+    a.mul_dag(b)
+}
+
+// The same, from the site alone.
 pub fn plaquette(links: &[f64], d: [usize; 4], n: usize, mu: usize, nu: usize) -> Su3
     requires { ⌜ Plane d (now links) n mu nu ⌝ }
     ensures { λ r. ⌜ r ≡ plaquetteOf d (linkOf d (now (links .entry))) n mu nu ⌝ }
@@ -19,9 +37,7 @@ pub fn plaquette(links: &[f64], d: [usize; 4], n: usize, mu: usize, nu: usize) -
     let v = geometry::sites(d);
     let f = steps::fwd(d, n, mu);
     let g = steps::fwd(d, n, nu);
-    let a = links::mul_at(links, links::place(v, mu, n), links::place(v, nu, f));
-    let b = links::mul_at(links, links::place(v, nu, n), links::place(v, mu, g));
-    a.mul_dag(b)
+    plaquette_at(links, v, mu, nu, n, f, g)
 }
 
 // The real part of the i-th entry on the diagonal of a·b·(c·e)†, for matrices at four places.

@@ -32,7 +32,7 @@ fieldRows d long = (badExtents d, 1) ∷ (badLinks d long, 3) ∷ []
 abbrev pub planRows : List ℕ → Float → ℕ → Rows
 planRows d c long = (badExtents d, 1) ∷ (badCoupling c, 2) ∷ (badLinks d long, 3) ∷ []
 
--- plaquette
+-- plaquette, clover_leaves
 abbrev pub planeRows : List ℕ → ℕ → ℕ → ℕ → ℕ → Rows
 planeRows d long n mu nu = (badExtents d, 1) ∷ (badLinks d long, 3) ∷ (badSite d n, 4) ∷ (badPlane mu nu, 5) ∷ []
 

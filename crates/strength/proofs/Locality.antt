@@ -1,7 +1,7 @@
 -- A clover, and so a density, depends on the clover's links alone.
 use Prim.Native.Nat.{ℕ, suc, _<_}
 use mathlib.Core.List.{List}
-use mathlib.Core.Path.{_≡_, refl}
+use mathlib.Core.Path.{_≡_}
 use native.Mathlib.Omega.{arith}
 use Rattle.links.specs.Field.{Field}
 use Rattle.gauge.specs.Plaquette.{plaquetteOf}

@@ -3,19 +3,9 @@ use mat::Su3;
 ghost use mathlib.Core.Path.{_≡_};
 ghost use Rattle.links.specs.Field.{fieldOf};
 ghost use Rattle.gauge.specs.Field.{linkOf};
-ghost use Rattle.gauge.specs.Plaquette.{plaquetteAt, Corners};
+ghost use Rattle.gauge.specs.Plaquette.{Corners};
 ghost use Rattle.strength.specs.Clover.{upperLeft, lowerLeft, lowerRight, cloverOf, strengthOf, strengthsOf, Around};
 ghost use Rattle.strength.specs.Densities.{AtSite};
-
-// U_μ(n) U_ν(f) (U_ν(n) U_μ(u))†: f is n + mu, u is n + nu.
-fn upper_right(links: &[f64], v: usize, mu: usize, nu: usize, n: usize, f: usize, u: usize) -> Su3
-    requires { ⌜ Corners (now links) v mu nu n f u ⌝ }
-    ensures { λ r. ⌜ r ≡ plaquetteAt (fieldOf v (now (links .entry))) mu nu n f u ⌝ }
-{
-    let a = links::link(links, v, mu, n).mul(links::link(links, v, nu, f));
-    let b = links::link(links, v, nu, n).mul(links::link(links, v, mu, u));
-    a.mul_dag(b)
-}
 
 // U_ν(n) U_μ†(w) U_ν†(b) U_μ(b): b is n - mu, w is n + nu - mu.
 fn upper_left(links: &[f64], v: usize, mu: usize, nu: usize, n: usize, b: usize, w: usize) -> Su3
@@ -48,7 +38,8 @@ fn lower_right(links: &[f64], v: usize, mu: usize, nu: usize, n: usize, c: usize
     x.mul(y)
 }
 
-// The sum of the four leaves. A corner's number is a sum: n - mu + nu is (n - mu) + (n + nu) - n.
+// The sum of the four leaves, the plaquette first. A corner's number is a sum where mu and nu differ:
+// n - mu + nu is (n - mu) + (n + nu) - n.
 pub fn clover_leaves(
     links: &[f64],
     d: [usize; 4],
@@ -67,7 +58,7 @@ pub fn clover_leaves(
     let u = up[nu];
     let b = down[mu];
     let c = down[nu];
-    let l1 = upper_right(links, v, mu, nu, n, f, u);
+    let l1 = gauge::plaquette_at(links, v, mu, nu, n, f, u);
     let l2 = upper_left(links, v, mu, nu, n, b, u + b - n);
     let l3 = lower_left(links, v, mu, nu, b, c, b + c - n);
     let l4 = lower_right(links, v, mu, nu, n, c, c + f - n);

@@ -1,6 +1,5 @@
 use mathlib.Core.Path.{refl}
 use Rattle.complex.specs.Complex.{cadd}
-use borrow.Author.Needs.{needs}
 use Rattle.gauge.proofs.paired.add_pair.Statement.{statement}
 use Rattle.gauge.proofs.paired.add_pair.Tie as tie
 
