@@ -6,7 +6,7 @@ mod sweep;
 
 pub use fields::{
     ACTION_DENSITY, CLOVER_LEAVES, ELECTRIC_SQ, FIELD_STRENGTH_AT, STOUT_LINK, STOUT_STEP,
-    TOPOLOGICAL_CHARGE_DENSITY, action_density, smeared,
+    TOPOLOGICAL_CHARGE_DENSITY, action_density, plane_densities, smeared, sum,
 };
 pub use sweep::{FINISHED, FRAME_OVERRELAX, OPEN_OVERRELAX, OVERRELAX_LINK};
 

@@ -10,7 +10,7 @@ use crate::face::Four;
 use crate::fields::{self, KINDS};
 use crate::inputs::Source;
 use crate::tally::Tally;
-use lists::{Field, Zeros};
+use lists::{Field, Actions};
 
 /// Every kind on each of these, with so many seeds.
 const SMALL: [Four; 10] = [
@@ -34,7 +34,7 @@ const LARGE: [Four; 2] = [[8, 8, 8, 8], [16, 4, 2, 16]];
 const ON_LARGE: [&str; 4] = ["group", "units", "damaged", "last unsound"];
 const LARGEST: Four = [16, 16, 16, 16];
 
-/// Steps' sizes: zeros, usual ones, both sides of 1 and 2, large ones, the smallest ones, and none.
+/// Steps' sizes: actions, usual ones, both sides of 1 and 2, large ones, the smallest ones, and none.
 const RHOS: [f64; 22] = [
     0.1,
     0.0,
@@ -62,7 +62,7 @@ const RHOS: [f64; 22] = [
 
 pub fn compare(tally: &mut Tally) {
     let mut source = Source::new(12);
-    let mut zeros = Zeros::default();
+    let mut actions = Actions::default();
     lists::cold(tally);
     for (number, kind) in KINDS.iter().enumerate() {
         let mut on = |ext: Four, seed: u64, steps: usize| {
@@ -70,7 +70,7 @@ pub fn compare(tally: &mut Tally) {
             let label = [number as u64, seed];
             single::compare(tally, &mut source, label, ext, &links);
             let field = Field::new(label, ext, links);
-            field.densities(tally, &mut zeros);
+            field.densities(tally, &mut actions);
             for rho in source.rhos(steps) {
                 field.step(tally, rho);
             }
@@ -86,17 +86,17 @@ pub fn compare(tally: &mut Tally) {
             LARGE.into_iter().for_each(|ext| on(ext, SEEDS, 0));
         }
     }
-    largest(tally, &mut zeros);
-    spoilt::compare(tally, &mut source, &mut zeros);
-    brink::compare(tally, &mut source, &mut zeros);
-    println!("fields: {zeros}");
+    largest(tally, &mut actions);
+    spoilt::compare(tally, &mut source, &mut actions);
+    brink::compare(tally, &mut source, &mut actions);
+    println!("fields: {actions}");
 }
 
-fn largest(tally: &mut Tally, zeros: &mut Zeros) {
+fn largest(tally: &mut Tally, actions: &mut Actions) {
     let number = fields::number_of(ON_LARGE[0]);
     let links = fields::links(&KINDS[number], LARGEST, 0);
     let field = Field::new([number as u64, 0], LARGEST, links);
-    field.densities(tally, zeros);
+    field.densities(tally, actions);
     field.step(tally, 0.1);
 }
 

@@ -92,13 +92,20 @@ pub fn smeared(lattice: &Su3Lattice, rho: f64) -> Vec<f64> {
 /// The reference's, but that each site's sum begins at +0, as the document says. In some versions of
 /// Rust's library it begins at -0, and so is -0 where all six terms are.
 pub fn action_density(strength: &FieldStrength) -> Vec<f64> {
-    let terms = strength
+    plane_densities(strength).map(|terms| sum(&terms)).collect()
+}
+
+/// The terms of the action density at each site: three of planes with time, three of space.
+pub fn plane_densities(strength: &FieldStrength) -> impl Iterator<Item = [f64; 6]> + '_ {
+    strength
         .f
         .iter()
-        .map(|planes| planes.map(|f| -(f * f).re_tr()));
-    terms
-        .map(|terms| terms.into_iter().fold(0.0, |sum, term| sum + term))
-        .collect()
+        .map(|planes| planes.map(|f| -(f * f).re_tr()))
+}
+
+/// From +0.
+pub fn sum(terms: &[f64]) -> f64 {
+    terms.iter().fold(0.0, |sum, term| sum + term)
 }
 
 fn charge_density(lattice: &Su3Lattice) -> Vec<f64> {

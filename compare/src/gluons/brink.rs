@@ -5,7 +5,7 @@
 //! is then moved around the lattice, so that this answer stands at the first site, at the last one and
 //! at others.
 
-use super::lists::{self, Field, Zeros};
+use super::lists::{self, Field, Actions};
 use crate::calls;
 use crate::face::Four;
 use crate::fields::{self, KINDS};
@@ -23,14 +23,14 @@ const STEPS: u64 = 8;
 /// Sites that an answer is moved to, beside the first and the last.
 const MOVES: usize = 2;
 
-pub fn compare(tally: &mut Tally, source: &mut Source, zeros: &mut Zeros) {
+pub fn compare(tally: &mut Tally, source: &mut Source, actions: &mut Actions) {
     // How often a list had one such number, and a direction one such link.
     let mut lists = [0; 5];
     let mut directions = [0; 4];
     for ext in EXTENTS {
         for seed in 0..SEEDS {
             for (list, met) in lists.iter_mut().enumerate() {
-                *met += u32::from(densities(tally, source, zeros, (ext, seed), list));
+                *met += u32::from(densities(tally, source, actions, (ext, seed), list));
             }
         }
         for seed in 0..STEPS {
@@ -56,7 +56,7 @@ type Make = fn(&[f64], f64) -> (Vec<f64>, f64);
 fn densities(
     tally: &mut Tally,
     source: &mut Source,
-    zeros: &mut Zeros,
+    actions: &mut Actions,
     (ext, seed): (Four, u64),
     list: usize,
 ) -> bool {
@@ -67,13 +67,13 @@ fn densities(
         all.nth(list).expect("one of five")
     };
     let [inside, outside] = brink(|x| !rows::not_finite(&numbers(&times(&links, x))));
-    Field::new(label, ext, times(&links, inside)).densities(tally, zeros);
+    Field::new(label, ext, times(&links, inside)).densities(tally, actions);
     let links = times(&links, outside);
     let out = not_finite(&numbers(&links));
     for to in sites(source, ext) {
         let links = moved(ext, &links, out[0], to);
         assert!(out.len() > 1 || not_finite(&numbers(&links)) == [to]);
-        Field::new(label, ext, links).densities(tally, zeros);
+        Field::new(label, ext, links).densities(tally, actions);
     }
     out.len() == 1
 }

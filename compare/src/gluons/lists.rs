@@ -20,23 +20,23 @@ pub struct Field {
     lent: Lent,
 }
 
-/// How often the library's `action_density` has +0 where the reference's own sum has -0, the named
-/// difference.
+/// What was seen of action densities that are finite.
 #[derive(Default)]
-pub struct Zeros {
-    differing: u64,
-    densities: u64,
+pub struct Actions {
+    all: u64,
+    /// The library has +0 where the reference's own sum has -0, the named difference.
+    zeros: u64,
+    /// The density is not its electric half plus its magnetic half.
+    halves: u64,
 }
 
-impl fmt::Display for Zeros {
+impl fmt::Display for Actions {
     fn fmt(&self, f: &mut fmt::Formatter<'_>) -> fmt::Result {
-        let Self {
-            differing,
-            densities,
-        } = self;
+        let Self { all, zeros, halves } = self;
         write!(
             f,
-            "{differing} of {densities} action densities are +0 and the Rust's own sum is -0"
+            "of {all} action densities {zeros} are +0 and the Rust's own sum is -0; {halves} are not \
+             the electric half plus the magnetic half"
         )
     }
 }
@@ -78,7 +78,7 @@ impl Field {
     }
 
     /// All five lists: action, charge, and the three axes.
-    pub fn densities(&self, tally: &mut Tally, zeros: &mut Zeros) {
+    pub fn densities(&self, tally: &mut Tally, actions: &mut Actions) {
         let strength = self.lattice().field_strength();
         let [action, charge, x, y, z] = of(&strength);
         self.density(tally, &ACTION_DENSITY, 0, &action);
@@ -86,7 +86,7 @@ impl Field {
         for (axis, numbers) in [x, y, z].iter().enumerate() {
             self.density(tally, &ELECTRIC_SQ, axis, numbers);
         }
-        self.against_own_sums(tally, &strength.action_density(), zeros);
+        self.against_own_sums(tally, &strength, actions);
     }
 
     fn density(&self, tally: &mut Tally, call: &Call, axis: usize, numbers: &[f64]) {
@@ -98,19 +98,23 @@ impl Field {
     }
 
     /// `action_density` against the unchanged Rust's own sums: no more than the sign of a zero differs.
-    fn against_own_sums(&self, tally: &mut Tally, own: &[f64], zeros: &mut Zeros) {
+    fn against_own_sums(&self, tally: &mut Tally, strength: &FieldStrength, actions: &mut Actions) {
+        let own = strength.action_density();
         let a = self.arguments(&ACTION_DENSITY);
         let refusal = face::action_density(&a.ext, a.links, a.second);
         let mut differing = 0;
-        if !rows::not_finite(own) {
-            for (place, own) in a.second.iter().zip(own) {
+        if !rows::not_finite(&own) {
+            let terms = calls::plane_densities(strength);
+            for ((place, own), terms) in a.second.iter().zip(&own).zip(terms) {
                 let density = place.get();
+                let halves = calls::sum(&terms[..3]) + calls::sum(&terms[3..]);
                 differing += u64::from(density != *own);
-                zeros.differing += u64::from(density == *own && density.to_bits() != own.to_bits());
-                zeros.densities += 1;
+                actions.all += 1;
+                actions.zeros += u64::from(density == *own && density.to_bits() != own.to_bits());
+                actions.halves += u64::from(density != halves);
             }
         }
-        let due = if rows::not_finite(own) { 10 } else { 0 };
+        let due = if rows::not_finite(&own) { 10 } else { 0 };
         let rattle = [refusal.into(), differing];
         tally.check(
             "jj_action_density, the Rust's own",

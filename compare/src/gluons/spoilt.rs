@@ -2,7 +2,7 @@
 //! link's can go out of range, of the next one, of some whose eighth powers are near the end of the
 //! range or past it, infinite, or NaN.
 
-use super::lists::{self, Field, Zeros};
+use super::lists::{self, Field, Actions};
 use crate::face::Four;
 use crate::fields::{self, KINDS};
 use crate::inputs::Source;
@@ -45,7 +45,7 @@ const PLACES: u64 = 4;
 /// One of these, with each number times the factor.
 const BASES: [(&str, f64); 4] = [("cold", 1.0), ("group", 1.0), ("raw", 2.0), ("units", 2.0)];
 
-pub fn compare(tally: &mut Tally, source: &mut Source, zeros: &mut Zeros) {
+pub fn compare(tally: &mut Tally, source: &mut Source, actions: &mut Actions) {
     let mut hidden = 0;
     for ext in EXTENTS {
         for (name, factor) in BASES {
@@ -60,7 +60,7 @@ pub fn compare(tally: &mut Tally, source: &mut Source, zeros: &mut Zeros) {
                     links[place] = edge;
                     let label = [number as u64, edge.to_bits()];
                     let field = Field::new(label, ext, links);
-                    check(tally, source, &field, zeros);
+                    check(tally, source, &field, actions);
                     hidden += u32::from(edge.is_nan() && accepts(&field));
                 }
             }
@@ -70,14 +70,14 @@ pub fn compare(tally: &mut Tally, source: &mut Source, zeros: &mut Zeros) {
             let links = (0..numbers).map(|_| edge.copysign(source.ordinary()));
             let label = [u64::MAX, edge.to_bits()];
             let field = Field::new(label, ext, links.collect());
-            check(tally, source, &field, zeros);
+            check(tally, source, &field, actions);
         }
     }
     assert!(hidden > 0, "no list was filled beside a NaN");
 }
 
-fn check(tally: &mut Tally, source: &mut Source, field: &Field, zeros: &mut Zeros) {
-    field.densities(tally, zeros);
+fn check(tally: &mut Tally, source: &mut Source, field: &Field, actions: &mut Actions) {
+    field.densities(tally, actions);
     for rho in [0.1, source.rho()] {
         field.step(tally, rho);
     }

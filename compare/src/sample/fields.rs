@@ -10,7 +10,8 @@
 //!     electric_sq ROW HASH ROW HASH ROW HASH   axis 0, 1, 2
 //!     stout_step F64 ROW HASH                  F64 is rho: 0.1
 //!
-//! and after the kind `group` four more lines `stout_step`, with -0.3, -0, 1e20 and 1e200.
+//! and after the kind `group` eight more lines `stout_step`, with -0.3, 0, -0, 1e20, 1e200, the
+//! infinities and NaN.
 //!
 //! In the first three each call adds its numbers to the hash, 18 or 108, and where it is refused its
 //! refusal number alone. In the others ROW is the refusal number and the hash is over the list that
@@ -28,7 +29,19 @@ use std::fmt::{Result, Write};
 
 const EXTENTS: Four = [2, 6, 4, 2];
 const RHO: f64 = 0.1;
-const MORE: (&str, [f64; 4]) = ("group", [-0.3, -0.0, 1e20, 1e200]);
+const MORE: (&str, [f64; 8]) = (
+    "group",
+    [
+        -0.3,
+        0.0,
+        -0.0,
+        1e20,
+        1e200,
+        f64::INFINITY,
+        f64::NEG_INFINITY,
+        f64::NAN,
+    ],
+);
 
 pub fn lines(to: &mut String) -> Result {
     fields::sampled()

@@ -7,7 +7,7 @@ use Rattle.complex.specs.declared.C64.{C64}
 use Rattle.mat.specs.declared.Su3.{Su3}
 use Rattle.quat.specs.declared.Mat2.{Mat2}
 use Rattle.quat.specs.declared.Quat.{Quat}
-use Rattle.mat.specs.Matrix.{ent}
+use Rattle.mat.specs.Matrix.{ent, nthMatrix}
 use Rattle.links.specs.Store.{cellAt, matrixAt}
 
 -- ## What an array holds
@@ -36,9 +36,6 @@ matrixNumbers u =
     ∷ ent u 6 .re ∷ ent u 6 .im ∷ ent u 7 .re ∷ ent u 7 .im ∷ ent u 8 .re ∷ ent u 8 .im ∷ []
 
 -- six matrices, plane by plane
-abbrev pub nthMatrix : List Su3 → ℕ → Su3
-nthMatrix f p = getD f p (record { m = [] })
-
 unfoldable pub planeNumbers : List Su3 → List Float
 planeNumbers f =
     matrixNumbers (nthMatrix f 0) ++ matrixNumbers (nthMatrix f 1) ++ matrixNumbers (nthMatrix f 2)

@@ -10,9 +10,9 @@ use Rattle.loops.proofs.Laws.{all-each}
 use Rattle.links.specs.Store.{cellAt, matrixAt}
 use Rattle.links.specs.Field.{placeOf, fieldOf, Sized}
 use Rattle.links.proofs.Laws.{room}
-use Rattle.bounds.specs.Magnitude.{Magnitude, ComplexMagnitude, MatrixMagnitude, allWithinTwo}
+use Rattle.bounds.specs.Magnitude.{Magnitude, allWithinTwo}
 use Rattle.bounds.proofs.Numbers.{within-two}
-use Rattle.bounds.proofs.Matrices.{magnitude-each}
+use Rattle.bounds.proofs.Matrices.{ComplexMagnitude, MatrixMagnitude, magnitude-each}
 
 module _ (l : List Float) {k : ℕ} (numbers : (i : ℕ) → i < length l → Magnitude k (getD l i nan)) where
   pub magnitude-cellAt : (p : ℕ) → p + 1 < length l → ComplexMagnitude k (cellAt l p)

@@ -16,8 +16,17 @@ use Rattle.mat.specs.Matrix.{at, ent, tabulate, each, zeroOf, identityOf, dagge
 use Rattle.mat.specs.Product.{sum3, rowCol, rowRow, colCol, mulOf, mulDagOf, dagMulOf}
 use Rattle.mat.specs.Traceless.{antiOf, subDiag, tracelessOf}
 use Rattle.mat.proofs.Entries.{table-at}
-use Rattle.bounds.specs.Magnitude.{Magnitude, ComplexMagnitude, MatrixMagnitude}
+use Rattle.bounds.specs.Magnitude.{Magnitude}
 use Rattle.bounds.proofs.Numbers.{magnitude-mono, magnitude-neg, magnitude-mul, magnitude-add, magnitude-sub, magnitude-finite, sum-grows, magnitude-zero, magnitude-one, magnitude-half, magnitude-third}
+
+-- both parts of a complex number
+pub record ComplexMagnitude (k : ℕ) (z : C64) : Type 0 where
+  pub re : Magnitude k (z .re)
+  pub im : Magnitude k (z .im)
+
+-- the nine entries of a matrix
+pub record MatrixMagnitude (k : ℕ) (u : Su3) : Type 0 where
+  pub entry : (i : ℕ) → i < 9 → ComplexMagnitude k (ent u i)
 
 -- ## Complex numbers
 

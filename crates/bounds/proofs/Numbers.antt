@@ -1,6 +1,6 @@
 -- Rounding, sums, products and negation keep bounds by powers of two, with another exponent; a bounded number is finite.
 use Prim.Native.Nat.{ℕ, zero, suc, _+_, _-_, _*_, _/_, _^_, _≤_, _<_}
-use mathlib.Core.Bool.{Bool, true, false, _&&_, _||_, Bool·beq, cond, false≢true}
+use mathlib.Core.Bool.{Bool, true, false, _&&_, _||_, Bool·beq, cond, false≢true, and-eq-true-iff}
 use mathlib.Core.Path.{_≡_, refl, sym, ap, _∙_, subst}
 use native.Mathlib.Nat.{le-trans, le-of-eq, le-of-lt, lt-of-le-of-lt, mul-one, mul-comm, mul-assoc, mul-left-comm, mul-right-comm, mul-mul-mul-comm, mul-le-mul, mul-le-mul-right, le-of-mul-le-mul-right, mul-pos, div-one, mod-one, div-lt-iff-lt-mul, pow-succ'}
 use native.Mathlib.Numerals.{add-one}
@@ -18,7 +18,8 @@ use lib.Ieee.Scale.{finite}
 use borrow.Author.Tests.{ltb-true, eqb-true}
 use Rattle.loops.specs.Loops.{foldTo}
 use Rattle.complex.specs.Rounded.{_⊞_, _⊟_, _⊠_, fzero, fone, fhalf, fthree, inverse}
-use Rattle.bounds.specs.Magnitude.{Below, Magnitude, withinTwo}
+use Rattle.bounds.specs.Magnitude.{AtMost, Magnitude, withinTwo}
+use Rattle.bounds.specs.Claims.{MagnitudesAreKept}
 
 -- ## Rounding: 2ᵏ is a value of the format, and rounding keeps the order
 
@@ -42,16 +43,16 @@ grid-le p n c k P C h =
     mul-lt : (c : ℕ) → 0 < c → 2 ^ k * c < 2 ^ suc k * c
     mul-lt c C = let q = mul-pos (pow-pos k) C in rw (pow-succ', mul-assoc) (omega arith)
 
-below-value : (l k : ℕ) (s : Bool) (x : Float) (g : ℕ) → HasValue x s g (2 ^ l) → g ≤ 2 ^ (k + l) → Below k x
-below-value l k s nan g v h = v
-below-value l k s (inf t) g v h = v
-below-value l k s (fin t m e) g v h =
+at-most-value : (l k : ℕ) (s : Bool) (x : Float) (g : ℕ) → HasValue x s g (2 ^ l) → g ≤ 2 ^ (k + l) → AtMost k x
+at-most-value l k s nan g v h = v
+at-most-value l k s (inf t) g v h = v
+at-most-value l k s (fin t m e) g v h =
     le-of-mul-le-mul-right
     (le-trans (le-of-eq (v .1)) (le-trans (mul-le-mul-right (down e) h) (le-of-eq (ap (λ (x : ℕ). x * down e) (pow-add 2 k l) ∙ mul-right-comm (2 ^ k) (2 ^ l) (down e)))))
     (pow-pos l)
 
-below-round : (f : Format) (s : Bool) (a c k : ℕ) → 0 < c → k ≤ emax f → a ≤ 2 ^ k * c → Below k (round f s a c)
-below-round f s a c k C K h =
+at-most-round : (f : Format) (s : Bool) (a c k : ℕ) → 0 < c → k ≤ emax f → a ≤ 2 ^ k * c → AtMost k (round f s a c)
+at-most-round f s a c k C K h =
     let l = low f in
     let n = a * 2 ^ l in
     let q = kept (prec f) n c in
@@ -59,76 +60,76 @@ below-round f s a c k C K h =
     let m : n ≤ 2 ^ (k + l) * c = le-trans (mul-le-mul-right (2 ^ l) h) (le-of-eq (mul-right-comm (2 ^ k) c (2 ^ l) ∙ ap (λ (x : ℕ). x * c) (sym (pow-add 2 k l)))) in
     let g = grid-le (prec f) n c (k + l) (two-le-pos (prec f) (two f)) C m in
     let v = units-val f s q d (lt-of-le-of-lt g (pow-lt (under k l (emax f) K))) in
-    below-value l k s (round f s a c) (q * 2 ^ d) (subst (λ (x : Float). HasValue x s (q * 2 ^ d) (2 ^ l)) (sym (round-is f s a c)) v) g
+    at-most-value l k s (round f s a c) (q * 2 ^ d) (subst (λ (x : Float). HasValue x s (q * 2 ^ d) (2 ^ l)) (sym (round-is f s a c)) v) g
   where
     under : (k l e : ℕ) → k ≤ e → k + l < l + suc e
     under k l e h = omega arith
 
 -- ## The operations, on bounds that the format reaches
 
-below-mono : (j k : ℕ) (x : Float) → j ≤ k → Below j x → Below k x
-below-mono j k nan h b = b
-below-mono j k (inf s) h b = b
-below-mono j k (fin s m e) h b = le-trans b (mul-le-mul-right (down e) (pow-mono h))
+at-most-mono : (j k : ℕ) (x : Float) → j ≤ k → AtMost j x → AtMost k x
+at-most-mono j k nan h b = b
+at-most-mono j k (inf s) h b = b
+at-most-mono j k (fin s m e) h b = le-trans b (mul-le-mul-right (down e) (pow-mono h))
 
-below-neg : (k : ℕ) (x : Float) → Below k x → Below k (neg x)
+at-most-neg : (k : ℕ) (x : Float) → AtMost k x → AtMost k (neg x)
 unfolding neg
-below-neg k nan b = b
-below-neg k (inf s) b = b
-below-neg k (fin s m e) b = b
+at-most-neg k nan b = b
+at-most-neg k (inf s) b = b
+at-most-neg k (fin s m e) b = b
 
-below-mul : (f : Format) (j k : ℕ) (x y : Float) → j + k ≤ emax f → Below j x → Below k y → Below (j + k) (mul f x y)
+at-most-mul : (f : Format) (j k : ℕ) (x y : Float) → j + k ≤ emax f → AtMost j x → AtMost k y → AtMost (j + k) (mul f x y)
 unfolding mul
-below-mul f j k nan y K a b = absurd a
-below-mul f j k (inf s) y K a b = absurd a
-below-mul f j k (fin s m e) nan K a b = absurd b
-below-mul f j k (fin s m e) (inf t) K a b = absurd b
-below-mul f j k (fin s m e) (fin t n d) K a b =
-    below-round f (unlike s t) (m * up e * (n * up d)) (down e * down d) (j + k) (mul-pos (down-pos e) (down-pos d)) K
+at-most-mul f j k nan y K a b = absurd a
+at-most-mul f j k (inf s) y K a b = absurd a
+at-most-mul f j k (fin s m e) nan K a b = absurd b
+at-most-mul f j k (fin s m e) (inf t) K a b = absurd b
+at-most-mul f j k (fin s m e) (fin t n d) K a b =
+    at-most-round f (unlike s t) (m * up e * (n * up d)) (down e * down d) (j + k) (mul-pos (down-pos e) (down-pos d)) K
     (le-trans (mul-le-mul a b) (le-of-eq (mul-mul-mul-comm (2 ^ j) (down e) (2 ^ k) (down d) ∙ ap (λ (x : ℕ). x * (down e * down d)) (sym (pow-add 2 j k)))))
 
 -- whatever the signs, the exact sum is at most a + b over c
-below-sum : (f : Format) (k : ℕ) (s : Bool) (a : ℕ) (t : Bool) (b c : ℕ) → 0 < c → suc k ≤ emax f → a ≤ 2 ^ k * c → b ≤ 2 ^ k * c → Below (suc k) (sum f s a t b c)
+at-most-sum : (f : Format) (k : ℕ) (s : Bool) (a : ℕ) (t : Bool) (b c : ℕ) → 0 < c → suc k ≤ emax f → a ≤ 2 ^ k * c → b ≤ 2 ^ k * c → AtMost (suc k) (sum f s a t b c)
 unfolding sum
-below-sum f k s a t b c C K p q = go (Bool·beq s t) (ltb a b)
+at-most-sum f k s a t b c C K p q = go (Bool·beq s t) (ltb a b)
   where
-    part : (r : Bool) (x : ℕ) → x ≤ a + b → Below (suc k) (round f r x c)
-    part r x h = below-round f r x c (suc k) C K (rw (pow-succ', mul-assoc) (omega arith))
+    part : (r : Bool) (x : ℕ) → x ≤ a + b → AtMost (suc k) (round f r x c)
+    part r x h = at-most-round f r x c (suc k) C K (rw (pow-succ', mul-assoc) (omega arith))
 
-    go : (u v : Bool) → Below (suc k) (cond u (round f s (a + b) c) (cond v (round f t (b - a) c) (round f (s && ltb b a) (a - b) c)))
+    go : (u v : Bool) → AtMost (suc k) (cond u (round f s (a + b) c) (cond v (round f t (b - a) c) (round f (s && ltb b a) (a - b) c)))
     go true v = part s (a + b) (omega arith)
     go false true = part t (b - a) (omega arith)
     go false false = part (s && ltb b a) (a - b) (omega arith)
 
-below-add : (f : Format) (k : ℕ) (x y : Float) → suc k ≤ emax f → Below k x → Below k y → Below (suc k) (add f x y)
+at-most-add : (f : Format) (k : ℕ) (x y : Float) → suc k ≤ emax f → AtMost k x → AtMost k y → AtMost (suc k) (add f x y)
 unfolding add
-below-add f k nan y K a b = absurd a
-below-add f k (inf s) y K a b = absurd a
-below-add f k (fin s m e) nan K a b = absurd b
-below-add f k (fin s m e) (inf t) K a b = absurd b
-below-add f k (fin s m e) (fin t n d) K a b =
-    below-sum f k s (m * up e * down d) t (n * up d * down e) (down e * down d) (mul-pos (down-pos e) (down-pos d)) K
+at-most-add f k nan y K a b = absurd a
+at-most-add f k (inf s) y K a b = absurd a
+at-most-add f k (fin s m e) nan K a b = absurd b
+at-most-add f k (fin s m e) (inf t) K a b = absurd b
+at-most-add f k (fin s m e) (fin t n d) K a b =
+    at-most-sum f k s (m * up e * down d) t (n * up d * down e) (down e * down d) (mul-pos (down-pos e) (down-pos d)) K
     (le-trans (mul-le-mul-right (down d) a) (le-of-eq (mul-assoc (2 ^ k) (down e) (down d))))
     (le-trans (mul-le-mul-right (down e) b) (le-of-eq (mul-assoc (2 ^ k) (down d) (down e) ∙ ap (λ (x : ℕ). 2 ^ k * x) (mul-comm (down d) (down e)))))
 
 -- ## The laws
 
 pub magnitude-round : (s : Bool) (a c k : ℕ) → 0 < c → a ≤ 2 ^ k * c → Magnitude k (round binary64 s a c)
-magnitude-round s a c k C h = record { bound = λ g. below-round binary64 s a c k C g h }
+magnitude-round s a c k C h = record { bound = λ g. at-most-round binary64 s a c k C g h }
 
 module _ {x : Float} where
   pub magnitude-mono : {j k : ℕ} → j ≤ k → Magnitude j x → Magnitude k x
-  magnitude-mono {j} {k} h a = record { bound = λ g. below-mono j k x h (a .bound (omega arith)) }
+  magnitude-mono {j} {k} h a = record { bound = λ g. at-most-mono j k x h (a .bound (omega arith)) }
 
   pub magnitude-neg : {k : ℕ} → Magnitude k x → Magnitude k (neg x)
-  magnitude-neg {k} a = record { bound = λ g. below-neg k x (a .bound g) }
+  magnitude-neg {k} a = record { bound = λ g. at-most-neg k x (a .bound g) }
 
   module _ {y : Float} where
     pub magnitude-mul : {j k : ℕ} → Magnitude j x → Magnitude k y → Magnitude (j + k) (x ⊠ y)
-    magnitude-mul {j} {k} a b = record { bound = λ g. below-mul binary64 j k x y g (a .bound (omega arith)) (b .bound (omega arith)) }
+    magnitude-mul {j} {k} a b = record { bound = λ g. at-most-mul binary64 j k x y g (a .bound (omega arith)) (b .bound (omega arith)) }
 
     pub magnitude-add : {k : ℕ} → Magnitude k x → Magnitude k y → Magnitude (k + 1) (x ⊞ y)
-    magnitude-add {k} a b = rw (add-one k) (record { bound = λ g. below-add binary64 k x y g (a .bound (omega arith)) (b .bound (omega arith)) })
+    magnitude-add {k} a b = rw (add-one k) (record { bound = λ g. at-most-add binary64 k x y g (a .bound (omega arith)) (b .bound (omega arith)) })
 
 pub magnitude-sub : {x y : Float} {k : ℕ} → Magnitude k x → Magnitude k y → Magnitude (k + 1) (x ⊟ y)
 unfolding sub
@@ -137,7 +138,7 @@ magnitude-sub a b = magnitude-add a (magnitude-neg b)
 pub magnitude-finite : {x : Float} {k : ℕ} → k ≤ 1023 → Magnitude k x → finite x ≡ true
 magnitude-finite {x} {k} h a = go x (a .bound h)
   where
-    go : (x : Float) → Below k x → finite x ≡ true
+    go : (x : Float) → AtMost k x → finite x ≡ true
     go nan b = absurd b
     go (inf s) b = absurd b
     go (fin s m e) b = refl
@@ -182,18 +183,24 @@ or-le a b v u e = go (ltb a b) v refl e
     go false true p q h = le-of-eq (q refl)
     go false false p q h = absurd (false≢true h)
 
-both : (a b : Bool) → a && b ≡ true → (a ≡ true) × (b ≡ true)
-both true b h = (refl, h)
-both false b h = absurd (false≢true h)
-
-below-two : (x : Float) → le (fin true 1 (pos 1)) x ≡ true → le x (fin false 1 (pos 1)) ≡ true → Below 1 x
+at-most-two : (x : Float) → le (fin true 1 (pos 1)) x ≡ true → le x (fin false 1 (pos 1)) ≡ true → AtMost 1 x
 unfolding le
-below-two nan a b = absurd (false≢true a)
-below-two (inf true) a b = absurd (false≢true a)
-below-two (inf false) a b = absurd (false≢true b)
-below-two (fin false m e) a b = let r = or-le (m * up e * 1) (2 * down e) (eqb (m * up e * 1) (2 * down e)) _ (eqb-true _ _) b in rw mul-one at r
-below-two (fin true m e) a b = let r = or-le (m * up e * 1) (2 * down e) (eqb (2 * down e) (m * up e * 1)) _ (λ q. sym (eqb-true (2 * down e) (m * up e * 1) q)) a in rw mul-one at r
+at-most-two nan a b = absurd (false≢true a)
+at-most-two (inf true) a b = absurd (false≢true a)
+at-most-two (inf false) a b = absurd (false≢true b)
+at-most-two (fin false m e) a b = let r = or-le (m * up e * 1) (2 * down e) (eqb (m * up e * 1) (2 * down e)) _ (eqb-true _ _) b in rw mul-one at r
+at-most-two (fin true m e) a b = let r = or-le (m * up e * 1) (2 * down e) (eqb (2 * down e) (m * up e * 1)) _ (λ q. sym (eqb-true (2 * down e) (m * up e * 1) q)) a in rw mul-one at r
 
 pub within-two : {x : Float} → withinTwo x ≡ true → Magnitude 1 x
 unfolding withinTwo neg ofBits
-within-two {x} h = let t = both _ _ h in record { bound = λ g. below-two x (t .0) (t .1) }
+within-two {x} h = let t = and-eq-true-iff _ _ .0 h in record { bound = λ g. at-most-two x (t .0) (t .1) }
+
+pub magnitudes-are-kept : MagnitudesAreKept
+magnitudes-are-kept = record {
+  product = λ j k x y. magnitude-mul;
+  sum = λ k x y. magnitude-add;
+  difference = λ k x y. magnitude-sub;
+  negation = λ k x. magnitude-neg;
+  tested = λ x. within-two;
+  bounded = λ k x. magnitude-finite;
+}

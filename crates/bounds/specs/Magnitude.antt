@@ -5,30 +5,18 @@ use mathlib.Core.List.{List}
 use lib.Ieee.{Float, nan, inf, fin, binary64, up, down, neg, le, ofBits}
 use lib.ListN.{length, getD}
 use Rattle.loops.specs.Loops.{allBelow}
-use Rattle.complex.specs.declared.C64.{C64}
-use Rattle.mat.specs.declared.Su3.{Su3}
-use Rattle.mat.specs.Matrix.{ent}
 
 -- ## Bounds
 
 -- finite, and at most 2ᵏ in absolute value; 2ᵉ is up e / down e
-abbrev pub Below : ℕ → Float → Type 0
-Below k nan = ⊥
-Below k (inf s) = ⊥
-Below k (fin s m e) = m * up e ≤ 2 ^ k * down e
+abbrev pub AtMost : ℕ → Float → Type 0
+AtMost k nan = ⊥
+AtMost k (inf s) = ⊥
+AtMost k (fin s m e) = m * up e ≤ 2 ^ k * down e
 
 -- a bound that f64 does not reach says nothing: so the laws have no side conditions, and 1023 is asked for once
 pub record Magnitude (k : ℕ) (x : Float) : Type 0 where
-  pub bound : k ≤ 1023 → Below k x
-
--- both parts of a complex number
-pub record ComplexMagnitude (k : ℕ) (z : C64) : Type 0 where
-  pub re : Magnitude k (z .re)
-  pub im : Magnitude k (z .im)
-
--- the nine entries of a matrix
-pub record MatrixMagnitude (k : ℕ) (u : Su3) : Type 0 where
-  pub entry : (i : ℕ) → i < 9 → ComplexMagnitude k (ent u i)
+  pub bound : k ≤ 1023 → AtMost k x
 
 -- ## The test
 

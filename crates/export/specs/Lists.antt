@@ -12,7 +12,7 @@ use Rattle.lattice.specs.Answers.{averageRow, actionRow}
 use Rattle.lattice.specs.Cold.{coldRow, coldLinks}
 use Rattle.lattice.specs.Check.{checkRow}
 use Rattle.strength.specs.declared.Density.{Density}
-use Rattle.fields.specs.Calls.{stepRow, smearedList, densityRow, densityList}
+use Rattle.fields.specs.Calls.{smearRow, smearedList, densityRow, densityList}
 use Rattle.export.specs.Face.{Given, CountGiven, NumberGiven}
 
 abbrev pub AverageGiven : List ℕ → List Float → ℕ → List Float → Type 0
@@ -32,8 +32,8 @@ pub record CheckGiven (d : List ℕ) (l : List Float) (old : List ℕ) (r : ℕ)
   pub kept : (checkRow d l old ≡ 0 → ⊥) → new ≡ old
 
 -- the second list has every smeared link, or is as it was
-abbrev pub StepGiven : List ℕ → Float → List Float → List Float → ℕ → List Float → Type 0
-StepGiven d rho l old r new = Given (stepRow d rho l old) (ifAccepted (stepRow d rho l old) (smearedList d rho l) old) r new
+abbrev pub SmearGiven : List ℕ → Float → List Float → List Float → ℕ → List Float → Type 0
+SmearGiven d rho l old r new = Given (smearRow d rho l old) (ifAccepted (smearRow d rho l old) (smearedList d rho l) old) r new
 
 -- the second list has a density at every site, or is as it was
 abbrev pub DensityGiven : List ℕ → Density → List Float → List Float → ℕ → List Float → Type 0

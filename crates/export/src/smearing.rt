@@ -1,6 +1,6 @@
 ghost use Rattle.fields.specs.Calls.{stoutCall};
 ghost use Rattle.export.specs.Face.{MatrixGiven};
-ghost use Rattle.export.specs.Lists.{StepGiven};
+ghost use Rattle.export.specs.Lists.{SmearGiven};
 use arrays::matrix_numbers;
 
 #[no_mangle]
@@ -26,7 +26,7 @@ pub extern "C" fn jj_stout_step(
     links: &[f64],
     smeared: &mut [f64],
 ) -> u32
-    ensures { λ r. ⌜ StepGiven (now (ext .entry)) rho (now (links .entry)) (now (smeared .entry)) r (now (smeared .exit)) ⌝ }
+    ensures { λ r. ⌜ SmearGiven (now (ext .entry)) rho (now (links .entry)) (now (smeared .entry)) r (now (smeared .exit)) ⌝ }
 {
     fields::stout_step(*ext, rho, links, smeared).refusal
 }

@@ -17,9 +17,9 @@ use Rattle.links.specs.Field.{Field}
 use Rattle.gauge.specs.Field.{linkOf}
 use Rattle.gauge.specs.Plaquette.{plaquetteOf}
 use Rattle.gauge.proofs.Fits.{sized}
-use Rattle.bounds.specs.Magnitude.{Magnitude, MatrixMagnitude}
+use Rattle.bounds.specs.Magnitude.{Magnitude}
 use Rattle.bounds.proofs.Numbers.{magnitude-neg, magnitude-mul, magnitude-add, magnitude-sub, magnitude-mono, magnitude-zero, magnitude-finite}
-use Rattle.bounds.proofs.Matrices.{matrix-mono, magnitude-mulOf, magnitude-mulDagOf, magnitude-dagMulOf, magnitude-addOf, magnitude-scaleOf, magnitude-tracelessOf, magnitude-reTr}
+use Rattle.bounds.proofs.Matrices.{MatrixMagnitude, matrix-mono, magnitude-mulOf, magnitude-mulDagOf, magnitude-dagMulOf, magnitude-addOf, magnitude-scaleOf, magnitude-tracelessOf, magnitude-reTr}
 use Rattle.bounds.proofs.Lists.{within-two-fieldOf}
 use Rattle.strength.specs.declared.Density.{Density}
 use Rattle.strength.specs.Clover.{cloverOf, fquarter, strengthOf}

@@ -1,6 +1,6 @@
 -- The lists that the calls fill, place by place, and when all their numbers are finite.
 use Prim.Native.Nat.{ℕ, _+_, _*_, _/_, _%_, _<_, _≤_}
-use mathlib.Core.Bool.{Bool, true, false, cond, _&&_, true≢false}
+use mathlib.Core.Bool.{Bool, true, false, cond, and-eq-true-iff}
 use mathlib.Core.List.{List, map}
 use mathlib.Core.Path.{_≡_, refl, ap, sym, _∙_}
 use native.Mathlib.Decide.{ℕ-discrete}
@@ -51,17 +51,13 @@ module _ (f : ℕ → Float) where
 
 -- ## one matrix for each link
 
-and-true : (a b : Bool) → a && b ≡ true → (a ≡ true) × (b ≡ true)
-and-true true b h = (refl, h)
-and-true false b h = (h, absurd (true≢false (sym h)))
-
 -- a matrix is finite where its eighteen numbers are
 part-finite : (u : Su3) → finiteMatrix u ≡ true → (i : ℕ) → i < 18 → finite (partOf u i) ≡ true
 unfolding finiteMatrix finiteEntry partOf
 part-finite u h i g = go (ℕ-discrete (i % 2) 0)
   where
     both : (finite (ent u (i / 2) .re) ≡ true) × (finite (ent u (i / 2) .im) ≡ true)
-    both = and-true _ _ (all-each (λ k. finiteEntry (ent u k)) 9 (i / 2) (omega arith) h)
+    both = and-eq-true-iff _ _ .0 (all-each (λ k. finiteEntry (ent u k)) 9 (i / 2) (omega arith) h)
 
     go : Dec (i % 2 ≡ 0) → finite (cond (eqb (i % 2) 0) (ent u (i / 2) .re) (ent u (i / 2) .im)) ≡ true
     go (yes z) = rw (eq-eqb (i % 2) 0 z) (both .0)

@@ -13,7 +13,7 @@ use Rattle.geometry.specs.Range.{range}
 use Rattle.geometry.specs.Radix.{volume}
 use Rattle.links.specs.Field.{Field}
 use Rattle.gauge.specs.Field.{linkOf, listOf}
-use Rattle.lattice.specs.Rows.{planeRows}
+use Rattle.lattice.specs.Rows.{planeRows, fieldSiteRows}
 use Rattle.lattice.specs.Situations.{badMatrix}
 use Rattle.strength.specs.declared.Density.{Density}
 use Rattle.strength.specs.Clover.{cloverOf, strengthsOf}
@@ -21,7 +21,7 @@ use Rattle.strength.specs.Densities.{densityOf}
 use Rattle.stout.specs.Stout.{stoutOf}
 use Rattle.fields.specs.declared.StrengthAnswer.{StrengthAnswer}
 use Rattle.fields.specs.declared.ListAnswer.{ListAnswer}
-use Rattle.fields.specs.Situations.{badNumbers, badSix, strengthRows, stoutRows, smearRows, densityRows}
+use Rattle.fields.specs.Situations.{badNumbers, badSix, stoutRows, smearRows, densityRows}
 
 -- ## Matrices
 
@@ -39,7 +39,7 @@ strengthAnswer row f = record { refusal = row; f = ifAccepted row f sixZeros }
 unfoldable pub strengthCall : List ℕ → ℕ → List Float → StrengthAnswer
 strengthCall d n l =
     let f = strengthsOf d (linkOf d l) n in
-    strengthAnswer (finally (firstRow (strengthRows d (length l) n)) (badSix f, 10)) f
+    strengthAnswer (finally (firstRow (fieldSiteRows d (length l) n)) (badSix f, 10)) f
 
 -- the smeared field: every link from the unsmeared ones, with twelve terms
 abbrev pub smeared : List ℕ → Field → Float → Field
@@ -60,11 +60,11 @@ pub record Filled (row : ℕ) (new old : List Float) (r : ListAnswer) (exit : Li
 unfoldable pub smearedList : List ℕ → Float → List Float → List Float
 smearedList d rho l = listOf d (smeared d (linkOf d l) rho)
 
-unfoldable pub stepRow : List ℕ → Float → List Float → List Float → ℕ
-stepRow d rho l old = finally (firstRow (smearRows d (length l) (length old))) (badNumbers (smearedList d rho l), 10)
+unfoldable pub smearRow : List ℕ → Float → List Float → List Float → ℕ
+smearRow d rho l old = finally (firstRow (smearRows d (length l) (length old))) (badNumbers (smearedList d rho l), 10)
 
-abbrev pub StepCall : List ℕ → Float → List Float → List Float → ListAnswer → List Float → Type 0
-StepCall d rho l old r exit = Filled (stepRow d rho l old) (smearedList d rho l) old r exit
+abbrev pub SmearCall : List ℕ → Float → List Float → List Float → ListAnswer → List Float → Type 0
+SmearCall d rho l old r exit = Filled (smearRow d rho l old) (smearedList d rho l) old r exit
 
 -- the density at every site
 unfoldable pub densityList : List ℕ → Density → List Float → List Float

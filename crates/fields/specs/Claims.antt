@@ -13,7 +13,7 @@ use Rattle.strength.specs.Densities.{InSpace, densityOf}
 use Rattle.stout.specs.Stout.{stoutOf}
 use Rattle.fields.specs.declared.ListAnswer.{ListAnswer}
 use Rattle.fields.specs.Situations.{finiteNumbers}
-use Rattle.fields.specs.Calls.{densityList, StepCall, DensityCall}
+use Rattle.fields.specs.Calls.{densityList, SmearCall, DensityCall}
 
 -- a field whose numbers are from −2 to 2 has finite densities
 abbrev pub SmallFieldsAreFinite : Type 0
@@ -22,11 +22,11 @@ SmallFieldsAreFinite = (d : List ℕ) (l : List Float) → Holds d l → allWith
 -- a stout step reads the unsmeared list alone: whatever the second list held, the answer is the same, and what an accepted call leaves there
 abbrev pub StepReadsOneList : Type 0
 StepReadsOneList = (d : List ℕ) (rho : Float) (l old other : List Float) → length old ≡ length other → (r s : ListAnswer) (exit exit' : List Float)
-    → StepCall d rho l old r exit → StepCall d rho l other s exit' → (r ≡ s) × (r .refusal ≡ 0 → exit ≡ exit')
+    → SmearCall d rho l old r exit → SmearCall d rho l other s exit' → (r ≡ s) × (r .refusal ≡ 0 → exit ≡ exit')
 
 -- an accepted step leaves a list whose links are what `stout_link` gives, link by link
 abbrev pub StepHoldsStoutLinks : Type 0
-StepHoldsStoutLinks = (d : List ℕ) (rho : Float) (l old : List Float) (r : ListAnswer) (exit : List Float) → StepCall d rho l old r exit → r .refusal ≡ 0
+StepHoldsStoutLinks = (d : List ℕ) (rho : Float) (l old : List Float) (r : ListAnswer) (exit : List Float) → SmearCall d rho l old r exit → r .refusal ≡ 0
     → (mu n : ℕ) → mu < 4 → n < volume d → linkOf d exit mu n ≡ stoutOf d (linkOf d l) 12 rho n mu
 
 -- and an accepted density call one whose numbers are the density, site by site

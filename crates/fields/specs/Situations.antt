@@ -1,4 +1,5 @@
--- The situations that these calls add to the lattice's, and each call's rows in the order in which they are tried; row 10 comes after them.
+-- The situations that these calls add to the lattice's, and the rows of calls that the lattice's do not have, in the order in which they are tried; row 10 comes
+-- after them. The rows of `clover_leaves` and `field_strength_at` are the lattice's `planeRows` and `fieldSiteRows`.
 use Prim.Native.Nat.{ℕ}
 use mathlib.Core.Bool.{Bool, false, not}
 use mathlib.Core.List.{List, [], _∷_}
@@ -8,7 +9,7 @@ use lib.Ieee.Scale.{finite}
 use lib.ListN.{length, getD}
 use Rattle.loops.specs.Loops.{allBelow}
 use Rattle.mat.specs.declared.Su3.{Su3}
-use Rattle.mat.specs.Matrix.{finiteMatrix}
+use Rattle.mat.specs.Matrix.{finiteMatrix, nthMatrix}
 use Rattle.geometry.specs.Radix.{volume}
 use Rattle.strength.specs.declared.Density.{Density}
 use Rattle.lattice.specs.Rows.{Rows}
@@ -34,9 +35,6 @@ unfoldable pub badNumbers : List Float → Bool
 badNumbers l = not (finiteNumbers l)
 
 -- 10: a number of six matrices isn't finite
-abbrev pub nthMatrix : List Su3 → ℕ → Su3
-nthMatrix f p = getD f p (record { m = [] })
-
 unfoldable pub finiteSix : List Su3 → Bool
 finiteSix f = allBelow (λ p. finiteMatrix (nthMatrix f p)) 6
 
@@ -44,10 +42,6 @@ unfoldable pub badSix : List Su3 → Bool
 badSix f = not (finiteSix f)
 
 -- ## Rows: d are extents, long the number of link numbers
-
--- field_strength_at
-abbrev pub strengthRows : List ℕ → ℕ → ℕ → Rows
-strengthRows d long n = (badExtents d, 1) ∷ (badLinks d long, 3) ∷ (badSite d n, 4) ∷ []
 
 -- stout_link
 abbrev pub stoutRows : List ℕ → ℕ → ℕ → ℕ → Rows

@@ -5,38 +5,17 @@ ghost use Rattle.rows.specs.Rows.{Judged};
 ghost use Rattle.geometry.specs.Radix.{volume};
 ghost use Rattle.geometry.specs.Shape.{Shape};
 ghost use Rattle.strength.specs.Densities.{InSpace};
-ghost use Rattle.fields.specs.Situations.{badAxis, strengthRows, stoutRows, smearRows, densityRows};
+ghost use Rattle.fields.specs.Situations.{badAxis, stoutRows, smearRows, densityRows};
 
-// The judges: the first row that holds of a call's inputs, and 0 where none does.
-
-pub fn strength_row(d: [usize; 4], long: usize, n: usize) -> u32
-    ensures { λ r. ⌜ Judged (strengthRows d long n) (Shape d × (long ≡ 72 * volume d) × (n < volume d)) r ⌝ }
-{
-    if !geometry::fits(d) {
-        return 1;
-    }
-    let v = geometry::sites(d);
-    if long != 72 * v {
-        return 3;
-    }
-    if n >= v {
-        return 4;
-    }
-    0
-}
+// The judges: the first row that holds of a call's inputs, and 0 where none does. Each begins
+// with one of the lattice's.
 
 pub fn stout_row(d: [usize; 4], long: usize, n: usize, mu: usize) -> u32
     ensures { λ r. ⌜ Judged (stoutRows d long n mu) (Shape d × (long ≡ 72 * volume d) × (n < volume d) × (mu < 4)) r ⌝ }
 {
-    if !geometry::fits(d) {
-        return 1;
-    }
-    let v = geometry::sites(d);
-    if long != 72 * v {
-        return 3;
-    }
-    if n >= v {
-        return 4;
+    let row = lattice::field_site_row(d, long, n);
+    if row != 0 {
+        return row;
     }
     if mu > 3 {
         return 5;
@@ -47,14 +26,11 @@ pub fn stout_row(d: [usize; 4], long: usize, n: usize, mu: usize) -> u32
 pub fn smear_row(d: [usize; 4], long: usize, second: usize) -> u32
     ensures { λ r. ⌜ Judged (smearRows d long second) (Shape d × (long ≡ 72 * volume d) × (second ≡ 72 * volume d)) r ⌝ }
 {
-    if !geometry::fits(d) {
-        return 1;
+    let row = lattice::field_row(d, long);
+    if row != 0 {
+        return row;
     }
-    let v = geometry::sites(d);
-    if long != 72 * v {
-        return 3;
-    }
-    if second != 72 * v {
+    if second != 72 * geometry::sites(d) {
         return 3;
     }
     0
@@ -73,14 +49,11 @@ fn bad_axis(kind: Density) -> bool
 pub fn density_row(d: [usize; 4], long: usize, second: usize, kind: Density) -> u32
     ensures { λ r. ⌜ Judged (densityRows d long second kind) (Shape d × (long ≡ 72 * volume d) × (second ≡ volume d) × InSpace kind) r ⌝ }
 {
-    if !geometry::fits(d) {
-        return 1;
+    let row = lattice::field_row(d, long);
+    if row != 0 {
+        return row;
     }
-    let v = geometry::sites(d);
-    if long != 72 * v {
-        return 3;
-    }
-    if second != v {
+    if second != geometry::sites(d) {
         return 3;
     }
     if bad_axis(kind) {

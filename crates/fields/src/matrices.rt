@@ -1,5 +1,4 @@
 use crate::StrengthAnswer;
-use crate::judges::strength_row;
 use mat::MatrixAnswer;
 use mat::Su3;
 ghost use mathlib.Core.Path.{_≡_};
@@ -45,7 +44,7 @@ fn finite_six(f: [Su3; 6]) -> bool
 pub fn field_strength_at(extents: [usize; 4], site: usize, links: &[f64]) -> StrengthAnswer
     ensures { λ r. ⌜ r ≡ strengthCall extents site (now (links .entry)) ⌝ }
 {
-    let row = strength_row(extents, links.len(), site);
+    let row = lattice::field_site_row(extents, links.len(), site);
     if row != 0 {
         return StrengthAnswer {
             refusal: row,

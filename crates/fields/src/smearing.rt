@@ -9,7 +9,7 @@ ghost use lib.ListN.{length};
 ghost use Rattle.geometry.specs.Radix.{volume};
 ghost use Rattle.gauge.specs.Field.{Holds};
 ghost use Rattle.fields.specs.Situations.{finiteNumbers};
-ghost use Rattle.fields.specs.Calls.{stoutCall, smearedList, StepCall};
+ghost use Rattle.fields.specs.Calls.{stoutCall, smearedList, SmearCall};
 
 // How many terms of the exponential's series are summed.
 const TERMS: u32 = 12;
@@ -64,7 +64,7 @@ fn store(links: &[f64], d: [usize; 4], rho: f64, smeared: &mut [f64])
 // One stout step on every link at once, from one list into another: first every number is tested, and then
 // worked out again and stored.
 pub fn stout_step(extents: [usize; 4], rho: f64, links: &[f64], smeared: &mut [f64]) -> ListAnswer
-    ensures { λ r. ⌜ StepCall extents rho (now (links .entry)) (now (smeared .entry)) r (now (smeared .exit)) ⌝ }
+    ensures { λ r. ⌜ SmearCall extents rho (now (links .entry)) (now (smeared .entry)) r (now (smeared .exit)) ⌝ }
 {
     let row = smear_row(extents, links.len(), smeared.len());
     if row != 0 {

@@ -30,15 +30,19 @@ fn kind_lines(kind: Kind, name: &[u8]) {
     answers(name, &links);
 }
 
-// The same, and steps with other numbers: the last is refused.
+// The same, and steps with other numbers: the last four are refused.
 fn group_lines() {
     let mut links = [0.0; 6912];
     fill(Kind::Group, &mut links);
     answers(b"group", &links);
     lists::step_line(EXTENTS, -0.3, &links);
+    lists::step_line(EXTENTS, 0.0, &links);
     lists::step_line(EXTENTS, -0.0, &links);
     lists::step_line(EXTENTS, 1e20, &links);
     lists::step_line(EXTENTS, 1e200, &links);
+    lists::step_line(EXTENTS, 1.0 / 0.0, &links);
+    lists::step_line(EXTENTS, -1.0 / 0.0, &links);
+    lists::step_line(EXTENTS, 0.0 / 0.0, &links);
 }
 
 pub fn all_lines() {

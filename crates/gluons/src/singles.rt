@@ -37,7 +37,7 @@ pub fn field_strengths(extents: [usize; 4], links: &[f64]) -> Fnv {
     h
 }
 
-// Direction by direction.
+// Site by site, the four directions of each.
 pub fn stout_links(extents: [usize; 4], links: &[f64]) -> Fnv {
     let mut h = Fnv::EMPTY;
     for k in 0..links.len() / 18 {

@@ -28,6 +28,10 @@ stepRows d n mu = (badExtents d, 1) ∷ (badSite d n, 4) ∷ (badDirection mu, 5
 abbrev pub fieldRows : List ℕ → ℕ → Rows
 fieldRows d long = (badExtents d, 1) ∷ (badLinks d long, 3) ∷ []
 
+-- field_strength_at
+abbrev pub fieldSiteRows : List ℕ → ℕ → ℕ → Rows
+fieldSiteRows d long n = (badExtents d, 1) ∷ (badLinks d long, 3) ∷ (badSite d n, 4) ∷ []
+
 -- cold, action
 abbrev pub planRows : List ℕ → Float → ℕ → Rows
 planRows d c long = (badExtents d, 1) ∷ (badCoupling c, 2) ∷ (badLinks d long, 3) ∷ []

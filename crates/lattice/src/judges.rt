@@ -4,9 +4,10 @@ ghost use Rattle.rows.specs.Rows.{Judged};
 ghost use Rattle.geometry.specs.Radix.{volume, Within};
 ghost use Rattle.geometry.specs.Shape.{Shape};
 ghost use Rattle.lattice.specs.Situations.{badCoupling, badCoords, badPlane};
-ghost use Rattle.lattice.specs.Rows.{extentsRows, siteRows, coordsRows, stepRows, fieldRows, planRows, planeRows, linkRows, checkRows};
+ghost use Rattle.lattice.specs.Rows.{extentsRows, siteRows, coordsRows, stepRows, fieldRows, fieldSiteRows, planRows, planeRows, linkRows, checkRows};
 
-// The judges: the first row that holds of a call's inputs, and 0 where none does.
+// The judges: the first row that holds of a call's inputs, and 0 where none does. A judge of more rows
+// begins with one of fewer.
 
 pub fn extents_row(d: [usize; 4]) -> u32
     ensures { λ r. ⌜ Judged (extentsRows d) (Shape d) r ⌝ }
@@ -20,8 +21,9 @@ pub fn extents_row(d: [usize; 4]) -> u32
 pub fn site_row(d: [usize; 4], n: usize) -> u32
     ensures { λ r. ⌜ Judged (siteRows d n) (Shape d × (n < volume d)) r ⌝ }
 {
-    if !geometry::fits(d) {
-        return 1;
+    let row = extents_row(d);
+    if row != 0 {
+        return row;
     }
     if n >= geometry::sites(d) {
         return 4;
@@ -43,8 +45,9 @@ fn bad_coords(d: [usize; 4], at: [usize; 4]) -> bool
 pub fn coords_row(d: [usize; 4], at: [usize; 4]) -> u32
     ensures { λ r. ⌜ Judged (coordsRows d at) (Shape d × Within d at) r ⌝ }
 {
-    if !geometry::fits(d) {
-        return 1;
+    let row = extents_row(d);
+    if row != 0 {
+        return row;
     }
     if bad_coords(d, at) {
         return 4;
@@ -55,11 +58,9 @@ pub fn coords_row(d: [usize; 4], at: [usize; 4]) -> u32
 pub fn step_row(d: [usize; 4], n: usize, mu: usize) -> u32
     ensures { λ r. ⌜ Judged (stepRows d n mu) (Shape d × (n < volume d) × (mu < 4)) r ⌝ }
 {
-    if !geometry::fits(d) {
-        return 1;
-    }
-    if n >= geometry::sites(d) {
-        return 4;
+    let row = site_row(d, n);
+    if row != 0 {
+        return row;
     }
     if mu > 3 {
         return 5;
@@ -70,11 +71,25 @@ pub fn step_row(d: [usize; 4], n: usize, mu: usize) -> u32
 pub fn field_row(d: [usize; 4], long: usize) -> u32
     ensures { λ r. ⌜ Judged (fieldRows d long) (Shape d × (long ≡ 72 * volume d)) r ⌝ }
 {
-    if !geometry::fits(d) {
-        return 1;
+    let row = extents_row(d);
+    if row != 0 {
+        return row;
     }
     if long != 72 * geometry::sites(d) {
         return 3;
+    }
+    0
+}
+
+pub fn field_site_row(d: [usize; 4], long: usize, n: usize) -> u32
+    ensures { λ r. ⌜ Judged (fieldSiteRows d long n) (Shape d × (long ≡ 72 * volume d) × (n < volume d)) r ⌝ }
+{
+    let row = field_row(d, long);
+    if row != 0 {
+        return row;
+    }
+    if n >= geometry::sites(d) {
+        return 4;
     }
     0
 }
@@ -94,8 +109,9 @@ pub fn bad_coupling(c: f64) -> bool
 pub fn plan_row(d: [usize; 4], c: f64, long: usize) -> u32
     ensures { λ r. ⌜ Judged (planRows d c long) (Shape d × (long ≡ 72 * volume d)) r ⌝ }
 {
-    if !geometry::fits(d) {
-        return 1;
+    let row = extents_row(d);
+    if row != 0 {
+        return row;
     }
     if bad_coupling(c) {
         return 2;
@@ -121,15 +137,9 @@ fn bad_plane(mu: usize, nu: usize) -> bool
 pub fn plane_row(d: [usize; 4], long: usize, n: usize, mu: usize, nu: usize) -> u32
     ensures { λ r. ⌜ Judged (planeRows d long n mu nu) (Shape d × (long ≡ 72 * volume d) × (n < volume d) × (mu < 4) × (nu < 4) × (nu ≡ mu → ⊥)) r ⌝ }
 {
-    if !geometry::fits(d) {
-        return 1;
-    }
-    let v = geometry::sites(d);
-    if long != 72 * v {
-        return 3;
-    }
-    if n >= v {
-        return 4;
+    let row = field_site_row(d, long, n);
+    if row != 0 {
+        return row;
     }
     if bad_plane(mu, nu) {
         return 5;
@@ -140,17 +150,11 @@ pub fn plane_row(d: [usize; 4], long: usize, n: usize, mu: usize, nu: usize) -> 
 pub fn link_row(d: [usize; 4], c: f64, long: usize, n: usize, mu: usize) -> u32
     ensures { λ r. ⌜ Judged (linkRows d c long n mu) (Shape d × (long ≡ 72 * volume d) × (n < volume d) × (mu < 4)) r ⌝ }
 {
-    if !geometry::fits(d) {
-        return 1;
+    let row = plan_row(d, c, long);
+    if row != 0 {
+        return row;
     }
-    if bad_coupling(c) {
-        return 2;
-    }
-    let v = geometry::sites(d);
-    if long != 72 * v {
-        return 3;
-    }
-    if n >= v {
+    if n >= geometry::sites(d) {
         return 4;
     }
     if mu > 3 {
@@ -162,14 +166,11 @@ pub fn link_row(d: [usize; 4], c: f64, long: usize, n: usize, mu: usize) -> u32
 pub fn check_row(d: [usize; 4], long: usize, room: usize) -> u32
     ensures { λ r. ⌜ Judged (checkRows d long room) (Shape d × (long ≡ 72 * volume d) × (4 * volume d ≤ room)) r ⌝ }
 {
-    if !geometry::fits(d) {
-        return 1;
+    let row = field_row(d, long);
+    if row != 0 {
+        return row;
     }
-    let v = geometry::sites(d);
-    if long != 72 * v {
-        return 3;
-    }
-    if room < 4 * v {
+    if room < 4 * geometry::sites(d) {
         return 12;
     }
     0

@@ -10,6 +10,7 @@ pub use check::link_check;
 pub use cold_start::cold;
 pub use judges::bad_coupling;
 pub use judges::field_row;
+pub use judges::field_site_row;
 pub use judges::link_row;
 pub use judges::plan_row;
 pub use judges::plane_row;

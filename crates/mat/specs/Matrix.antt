@@ -20,6 +20,10 @@ at u i j = getD (u .m) (3 * i + j) cnan
 abbrev pub ent : Su3 → ℕ → C64
 ent u k = getD (u .m) k cnan
 
+-- the p-th of several matrices
+abbrev pub nthMatrix : List Su3 → ℕ → Su3
+nthMatrix f p = getD f p (record { m = [] })
+
 -- the matrix with f i j at row i and column j
 abbrev pub tabulate : (ℕ → ℕ → C64) → Su3
 tabulate f = record { m = f 0 0 ∷ f 0 1 ∷ f 0 2 ∷ f 1 0 ∷ f 1 1 ∷ f 1 2 ∷ f 2 0 ∷ f 2 1 ∷ f 2 2 ∷ [] }

@@ -1,10 +1,12 @@
 -- Rows met and rows passed; what judges and answers say.
-use Prim.Native.Nat.{ℕ, zero, suc}
-use mathlib.Core.Bool.{Bool, true, false}
-use mathlib.Core.List.{List, [], _∷_}
-use mathlib.Core.Path.{_≡_, refl, sym}
+use Prim.Native.Nat.{ℕ, zero, suc, _<_}
+use mathlib.Core.Bool.{Bool, true, false, cond, _&&_, and-eq-true-iff}
+use mathlib.Core.List.{List, [], _∷_, _++_}
+use mathlib.Core.Path.{_≡_, refl, sym, _∙_}
 use native.Mathlib.Omega.{arith}
+use lib.Dec.{ltb}
 use lib.Ieee.{Float}
+use borrow.Author.Tests.{ltb-true}
 use Rattle.rows.specs.declared.Number.{Number}
 use Rattle.rows.specs.declared.Count.{Count}
 use Rattle.rows.specs.Rows.{firstRow, ifAccepted, finally, Judged}
@@ -66,6 +68,42 @@ module _ {rows : List (Bool × ℕ)} {Facts : Type 0} where
 
   pub accepts : firstRow rows ≡ 0 → Facts → Judged rows Facts 0
   accepts e facts = record { row = sym e; accepted = λ h. facts }
+
+-- ## judges that go on from another: further rows are tried where the first ones pass
+
+-- every row has a number above 0
+abbrev pub numbered : List (Bool × ℕ) → Bool
+numbered [] = true
+numbered (row ∷ rows) = ltb 0 (row .1) && numbered rows
+
+pub rows-refuse : (rows more : List (Bool × ℕ)) → (firstRow rows ≡ 0 → ⊥) → firstRow (rows ++ more) ≡ firstRow rows
+unfolding firstRow
+rows-refuse [] more ne = absurd (ne refl)
+rows-refuse (row ∷ rows) more ne = go (row .0) ne (rows-refuse rows more)
+  where
+    go : (b : Bool) → (cond b (row .1) (firstRow rows) ≡ 0 → ⊥) → ((firstRow rows ≡ 0 → ⊥) → firstRow (rows ++ more) ≡ firstRow rows)
+        → cond b (row .1) (firstRow (rows ++ more)) ≡ cond b (row .1) (firstRow rows)
+    go true ne rest = refl
+    go false ne rest = rest ne
+
+pub rows-pass : (rows more : List (Bool × ℕ)) → numbered rows ≡ true → firstRow rows ≡ 0 → firstRow (rows ++ more) ≡ firstRow more
+unfolding firstRow
+rows-pass [] more above none = refl
+rows-pass (row ∷ rows) more above none =
+    let both = and-eq-true-iff (ltb 0 (row .1)) (numbered rows) .0 above in
+    go (row .0) (ltb-true 0 (row .1) (both .0)) none (rows-pass rows more (both .1))
+  where
+    go : (b : Bool) → 0 < row .1 → cond b (row .1) (firstRow rows) ≡ 0 → (firstRow rows ≡ 0 → firstRow (rows ++ more) ≡ firstRow more)
+        → cond b (row .1) (firstRow (rows ++ more)) ≡ firstRow more
+    go true a none rest = absurd (omega arith)
+    go false a none rest = rest none
+
+module _ {rows : List (Bool × ℕ)} {Facts : Type 0} {r : ℕ} (first : Judged rows Facts r) (more : List (Bool × ℕ)) where
+  pub first-refuses : {Further : Type 0} → (r ≡ 0 → ⊥) → Judged (rows ++ more) Further r
+  first-refuses ne = record { row = first .row ∙ sym (rows-refuse rows more (λ e. ne (first .row ∙ e))); accepted = λ e. absurd (ne e) }
+
+  pub first-passes : numbered rows ≡ true → r ≡ 0 → firstRow (rows ++ more) ≡ firstRow more
+  first-passes above e = rows-pass rows more above (sym (first .row) ∙ e)
 
 -- ## answers that are an enum
 

@@ -1,4 +1,4 @@
--- Which links a clover and a density depend on.
+-- Which links a clover and a density depend on, what the action density's electric half adds up, and the charge's factor.
 use Prim.Native.Nat.{ℕ, suc, _<_}
 use mathlib.Core.List.{List}
 use mathlib.Core.Path.{_≡_}
@@ -54,8 +54,8 @@ abbrev pub ActionBeginsElectric : Type 0
 ActionBeginsElectric = (d : List ℕ) (U : Field) (n : ℕ)
     → actionDensityOf d U n ≡ electricSum d U n ⊞ planeDensity d U n 1 2 ⊞ planeDensity d U n 1 3 ⊞ planeDensity d U n 2 3
 
--- More does not hold: the action density need not be the sum of an electric and a magnetic half, since f64 sums depend on their order. 1 + t + t is 1, but
--- 1 + (t + t) is the next f64, for t = 2⁻⁵³.
+-- No law says that the action density is its electric half plus its magnetic half: the planes of space are added one by one, and f64 sums depend on their
+-- order. 1 + t + t is 1, but 1 + (t + t) is the next f64, for t = 2⁻⁵³.
 pub record SumsDependOnOrder : Type 0 where
   pub inTurn : fone ⊞ halfStep ⊞ halfStep ≡ fone
   pub inHalves : fone ⊞ (halfStep ⊞ halfStep) ≡ ofBits binary64 0x3ff0_0000_0000_0001

@@ -52,11 +52,9 @@ pub fn frame_row(job: Job, long: usize) -> u32
     ensures { λ r. ⌜ Judged (frameRows job long) (Shape (job .extents) × (long ≡ 72 * volume (job .extents)) × InRange job) r ⌝ }
 {
     let d = job.extents;
-    if !geometry::fits(d) {
-        return 1;
-    }
-    if long != 72 * geometry::sites(d) {
-        return 3;
+    let row = lattice::field_row(d, long);
+    if row != 0 {
+        return row;
     }
     if bad_job(job) {
         return 8;

@@ -9,7 +9,8 @@ use Rattle.loops.specs.Loops.{fill}
 use Rattle.loops.proofs.Laws.{fill-none, fill-next, fill-done}
 use Rattle.complex.specs.Rounded.{fzero}
 use Rattle.mat.specs.declared.Su3.{Su3}
-use Rattle.arrays.specs.Arrays.{nthMatrix, matrixNumbers, planeNumbers}
+use Rattle.mat.specs.Matrix.{nthMatrix}
+use Rattle.arrays.specs.Arrays.{matrixNumbers, planeNumbers}
 use Rattle.arrays.proofs.plane_numbers.Statement.{statement}
 use Rattle.arrays.proofs.plane_numbers.Tie as tie
 

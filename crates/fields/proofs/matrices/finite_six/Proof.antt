@@ -6,8 +6,8 @@ use mathlib.Core.Bool.{true}
 use native.Mathlib.Omega.{arith}
 use Rattle.loops.specs.Loops.{allBelow}
 use Rattle.loops.proofs.Laws.{all-none, all-next, all-fails, all-done}
-use Rattle.mat.specs.Matrix.{finiteMatrix}
-use Rattle.fields.specs.Situations.{nthMatrix, finiteSix}
+use Rattle.mat.specs.Matrix.{finiteMatrix, nthMatrix}
+use Rattle.fields.specs.Situations.{finiteSix}
 use Rattle.fields.proofs.matrices.finite_six.Statement.{statement}
 use Rattle.fields.proofs.matrices.finite_six.Tie as tie
 

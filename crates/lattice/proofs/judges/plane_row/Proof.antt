@@ -1,44 +1,24 @@
-use mathlib.Core.Bool.{true}
-use mathlib.Core.Path.{_≡_, sym, _∙_}
-use native.Mathlib.Omega.{arith}
-use borrow.Author.Tests.{not-true, not-false}
-use Rattle.rows.proofs.Laws.{no-row, row-holds, row-passes, refuses, accepts}
-use Rattle.geometry.specs.Shape.{Shape, fitsOf}
-use Rattle.geometry.proofs.Shape.{fits-shape, volume-high}
-use Rattle.lattice.proofs.Laws.{bad-extents, good-extents, bad-links, good-links, bad-site, good-site, plane-axes}
+use mathlib.Core.Path.{refl, sym, _∙_}
 use borrow.Author.Needs.{needs}
+use Rattle.rows.proofs.Laws.{no-row, row-holds, row-passes, refuses, accepts, first-refuses, first-passes}
+use Rattle.lattice.proofs.Laws.{plane-axes}
 use Rattle.lattice.proofs.judges.plane_row.Statement.{statement}
 use Rattle.lattice.proofs.judges.plane_row.Tie as tie
 
-fit : (c : tie.Else1) → fitsOf (c .before .before .args .d) ≡ true
-fit c = sym (c .before .fits2 .ensures) ∙ not-false _ (c .if1 .left)
-
-shape : (c : tie.Else1) → Shape (c .before .before .args .d)
-shape c = fits-shape _ (search needs) (fit c)
-
 returns : tie.Need-returns
-returns c = refuses 0 (row-holds 1 _ (bad-extents _ (sym (c .before .fits2 .ensures) ∙ not-true _ (c .if1 .taken))))
-
-sites-requires : tie.Need-sites-requires
-sites-requires c κs = shape c
-
-mul-if2 : tie.Need-mul-if2
-mul-if2 c = let high = volume-high _ (shape (c .before)) in rw (c .sites .ensures) (omega arith)
+returns c = first-refuses (c .before .field-site-row .ensures) _ (c .if1 .taken)
 
 returns-2 : tie.Need-returns-2
-returns-2 c = refuses 2 (row-passes 1 _ (good-extents _ (fit (c .before .before))) ∙ row-holds 3 _ (bad-links _ (rw (c .before .sites .ensures) at (c .if2 .taken))))
+returns-2 c = refuses 4 (first-passes (c .before .before .before .field-site-row .ensures) _ refl (c .before .before .if1 .left) ∙ row-holds 5 _ (sym (c .before .bad-plane .ensures) ∙ c .if2 .taken))
 
 returns-3 : tie.Need-returns-3
-returns-3 c = refuses 3 (row-passes 1 _ (good-extents _ (fit (c .before .before .before))) ∙ row-passes 3 _ (good-links _ (rw (c .before .before .sites .ensures) at (c .before .if2 .left))) ∙ row-holds 4 _ (bad-site _ (rw (c .before .before .sites .ensures) at (c .if3 .taken))))
-
-returns-4 : tie.Need-returns-4
-returns-4 c = refuses 4 (row-passes 1 _ (good-extents _ (fit (c .before .before .before .before .before))) ∙ row-passes 3 _ (good-links _ (rw (c .before .before .before .before .sites .ensures) at (c .before .before .before .if2 .left))) ∙ row-passes 4 _ (good-site _ (rw (c .before .before .before .before .sites .ensures) at (c .before .before .if3 .left))) ∙ row-holds 5 _ (sym (c .before .bad-plane .ensures) ∙ c .if4 .taken))
-
-returns-5 : tie.Need-returns-5
-returns-5 c =
+returns-3 c =
+    let judged = c .before .before .before .field-site-row .ensures in
+    let facts = judged .accepted (c .before .before .if1 .left) in
+    let good = sym (c .before .bad-plane .ensures) ∙ c .if2 .left in
     accepts
-    (row-passes 1 _ (good-extents _ (fit (c .before .before .before .before .before))) ∙ row-passes 3 _ (good-links _ (rw (c .before .before .before .before .sites .ensures) at (c .before .before .before .if2 .left))) ∙ row-passes 4 _ (good-site _ (rw (c .before .before .before .before .sites .ensures) at (c .before .before .if3 .left))) ∙ row-passes 5 _ (sym (c .before .bad-plane .ensures) ∙ c .if4 .left) ∙ no-row)
-    (shape (c .before .before .before .before .before), rw (c .before .before .before .before .sites .ensures) at (c .before .before .before .if2 .left), rw (c .before .before .before .before .sites .ensures) at (c .before .before .if3 .left), plane-axes _ _ (sym (c .before .bad-plane .ensures) ∙ c .if4 .left) .0, plane-axes _ _ (sym (c .before .bad-plane .ensures) ∙ c .if4 .left) .1, plane-axes _ _ (sym (c .before .bad-plane .ensures) ∙ c .if4 .left) .2)
+    (first-passes judged _ refl (c .before .before .if1 .left) ∙ row-passes 5 _ good ∙ no-row)
+    (facts .0, facts .1, facts .2, plane-axes _ _ good .0, plane-axes _ _ good .1, plane-axes _ _ good .2)
 
 pub plane-row-spec : {M : Type 1} → statement M
-plane-row-spec = tie.close (tie.spec (λ c κs. search needs) returns sites-requires mul-if2 returns-2 returns-3 (λ c κs. search needs) returns-4 returns-5)
+plane-row-spec = tie.close (tie.spec (λ c κs. search needs) returns (λ c κs. search needs) returns-2 returns-3)

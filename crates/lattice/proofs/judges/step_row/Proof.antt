@@ -1,38 +1,22 @@
-use mathlib.Core.Bool.{true}
-use mathlib.Core.Path.{_≡_, sym, _∙_}
+use mathlib.Core.Path.{refl, _∙_}
 use native.Mathlib.Omega.{arith}
-use borrow.Author.Tests.{not-true, not-false}
-use Rattle.rows.proofs.Laws.{no-row, row-holds, row-passes, refuses, accepts}
-use Rattle.geometry.specs.Shape.{Shape, fitsOf}
-use Rattle.geometry.proofs.Shape.{fits-shape}
-use Rattle.lattice.proofs.Laws.{bad-extents, good-extents, bad-site, good-site, bad-direction, good-direction}
 use borrow.Author.Needs.{needs}
+use Rattle.rows.proofs.Laws.{no-row, row-holds, row-passes, refuses, accepts, first-refuses, first-passes}
+use Rattle.lattice.proofs.Laws.{bad-direction, good-direction}
 use Rattle.lattice.proofs.judges.step_row.Statement.{statement}
 use Rattle.lattice.proofs.judges.step_row.Tie as tie
 
-fit : (c : tie.Else1) → fitsOf (c .before .before .args .d) ≡ true
-fit c = sym (c .before .fits2 .ensures) ∙ not-false _ (c .if1 .left)
-
-shape : (c : tie.Else1) → Shape (c .before .before .args .d)
-shape c = fits-shape _ (search needs) (fit c)
-
 returns : tie.Need-returns
-returns c = refuses 0 (row-holds 1 _ (bad-extents _ (sym (c .before .fits2 .ensures) ∙ not-true _ (c .if1 .taken))))
-
-sites-requires : tie.Need-sites-requires
-sites-requires c κs = shape c
+returns c = first-refuses (c .before .site-row .ensures) _ (c .if1 .taken)
 
 returns-2 : tie.Need-returns-2
-returns-2 c = refuses 3 (row-passes 1 _ (good-extents _ (fit (c .before .before))) ∙ row-holds 4 _ (bad-site _ (rw (c .before .sites .ensures) at (c .if2 .taken))))
+returns-2 c = refuses 4 (first-passes (c .before .before .site-row .ensures) _ refl (c .before .if1 .left) ∙ row-holds 5 _ (bad-direction (c .if2 .taken)))
 
 returns-3 : tie.Need-returns-3
-returns-3 c = refuses 4 (row-passes 1 _ (good-extents _ (fit (c .before .before .before))) ∙ row-passes 4 _ (good-site _ (rw (c .before .before .sites .ensures) at (c .before .if2 .left))) ∙ row-holds 5 _ (bad-direction (c .if3 .taken)))
-
-returns-4 : tie.Need-returns-4
-returns-4 c =
-    accepts
-    (row-passes 1 _ (good-extents _ (fit (c .before .before .before))) ∙ row-passes 4 _ (good-site _ (rw (c .before .before .sites .ensures) at (c .before .if2 .left))) ∙ row-passes 5 _ (good-direction (c .if3 .left)) ∙ no-row)
-    (shape (c .before .before .before), rw (c .before .before .sites .ensures) at (c .before .if2 .left), omega (arith, c .if3 .left))
+returns-3 c =
+    let judged = c .before .before .site-row .ensures in
+    let facts = judged .accepted (c .before .if1 .left) in
+    accepts (first-passes judged _ refl (c .before .if1 .left) ∙ row-passes 5 _ (good-direction (c .if2 .left)) ∙ no-row) (facts .0, facts .1, omega (arith, c .if2 .left))
 
 pub step-row-spec : {M : Type 1} → statement M
-step-row-spec = tie.close (tie.spec (λ c κs. search needs) returns sites-requires returns-2 returns-3 returns-4)
+step-row-spec = tie.close (tie.spec (λ c κs. search needs) returns returns-2 returns-3)
