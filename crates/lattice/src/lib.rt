@@ -12,7 +12,6 @@ pub use judges::bad_coupling;
 pub use judges::field_row;
 pub use judges::field_site_row;
 pub use judges::link_row;
-pub use judges::plan_row;
 pub use judges::plane_row;
 pub use observables::action;
 pub use observables::average_plaquette;
