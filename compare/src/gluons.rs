@@ -9,22 +9,11 @@ mod spoilt;
 use crate::face::Four;
 use crate::fields::{self, KINDS};
 use crate::inputs::Source;
+use crate::lattice::SMALL;
 use crate::tally::Tally;
 use lists::{Field, Actions};
 
-/// Every kind on each of these, with so many seeds.
-const SMALL: [Four; 10] = [
-    [2, 2, 2, 2],
-    [4, 2, 2, 2],
-    [2, 4, 2, 2],
-    [2, 2, 4, 2],
-    [2, 2, 2, 4],
-    [2, 6, 4, 2],
-    [4, 2, 2, 6],
-    [2, 2, 10, 2],
-    [2, 2, 2, 16],
-    [16, 2, 2, 2],
-];
+/// So many on the small extents, of every kind.
 const SEEDS: u64 = 3;
 
 /// Every kind once on each of these.

@@ -9,7 +9,7 @@ use crate::rows::Arguments;
 use crate::tally::Tally;
 
 /// Every kind on each of these, with so many seeds, at every site.
-const SMALL: [Four; 10] = [
+pub const SMALL: [Four; 10] = [
     [2, 2, 2, 2],
     [4, 2, 2, 2],
     [2, 4, 2, 2],
