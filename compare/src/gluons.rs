@@ -11,7 +11,7 @@ use crate::fields::{self, KINDS};
 use crate::inputs::Source;
 use crate::lattice::SMALL;
 use crate::tally::Tally;
-use lists::{Field, Actions};
+use lists::{Actions, Field};
 
 /// So many on the small extents, of every kind.
 const SEEDS: u64 = 3;
@@ -23,7 +23,7 @@ const LARGE: [Four; 2] = [[8, 8, 8, 8], [16, 4, 2, 16]];
 const ON_LARGE: [&str; 4] = ["group", "units", "damaged", "last unsound"];
 const LARGEST: Four = [16, 16, 16, 16];
 
-/// Steps' sizes: actions, usual ones, both sides of 1 and 2, large ones, the smallest ones, and none.
+/// Steps' sizes: zeros, usual ones, both sides of 1 and 2, large ones, the smallest ones, and none.
 const RHOS: [f64; 22] = [
     0.1,
     0.0,

@@ -5,7 +5,7 @@
 //! is then moved around the lattice, so that this answer stands at the first site, at the last one and
 //! at others.
 
-use super::lists::{self, Field, Actions};
+use super::lists::{self, Actions, Field};
 use crate::calls;
 use crate::face::Four;
 use crate::fields::{self, KINDS};

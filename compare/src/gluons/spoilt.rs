@@ -2,7 +2,7 @@
 //! link's can go out of range, of the next one, of some whose eighth powers are near the end of the
 //! range or past it, infinite, or NaN.
 
-use super::lists::{self, Field, Actions};
+use super::lists::{self, Actions, Field};
 use crate::face::Four;
 use crate::fields::{self, KINDS};
 use crate::inputs::Source;
