@@ -13,7 +13,7 @@ use crate::lattice::SMALL;
 use crate::tally::Tally;
 use lists::{Actions, Field};
 
-/// So many on the small extents, of every kind.
+/// So many seeds on each of the small extents, for kinds that draw.
 const SEEDS: u64 = 3;
 
 /// Every kind once on each of these.

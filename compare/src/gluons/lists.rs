@@ -20,7 +20,7 @@ pub struct Field {
     lent: Lent,
 }
 
-/// What was seen of action densities that are finite.
+/// What was seen of action densities, in lists that are finite.
 #[derive(Default)]
 pub struct Actions {
     all: u64,

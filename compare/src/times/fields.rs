@@ -8,7 +8,7 @@
 //! of the old ones and drops these. It is timed on a clone of the lattice that is made before; the
 //! library writes to a list that stays.
 //!
-//! For a density the library goes over a field once where no number is above 2, and else twice: one
+//! For a density the library goes over a field once where every number is from -2 to 2, and else twice: one
 //! row has a field with a 3 in it. A step of the library's always goes twice. For three axes it works
 //! out three planes, where the reference works out six.
 

@@ -1,5 +1,4 @@
 -- Matrices, blocks and quaternions as the arrays of numbers in which a host hands them over: row by row, real first.
-use Prim.Native.Nat.{ℕ}
 use mathlib.Core.List.{List, [], _∷_, _++_}
 use lib.ListN.{getD}
 use lib.Ieee.{Float, nan}

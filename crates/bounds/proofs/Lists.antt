@@ -31,8 +31,5 @@ module _ (l : List Float) (all : allWithinTwo l ≡ true) where
   unfolding allWithinTwo
   within-two-at i h = within-two (all-each _ (length l) i h all)
 
-  pub within-two-matrixAt : (p : ℕ) → p + 18 ≤ length l → MatrixMagnitude 1 (matrixAt l p)
-  within-two-matrixAt = magnitude-matrixAt l within-two-at
-
   pub within-two-fieldOf : (v mu n : ℕ) → Sized l v → mu < 4 → n < v → MatrixMagnitude 1 (fieldOf v l mu n)
   within-two-fieldOf = magnitude-fieldOf l within-two-at

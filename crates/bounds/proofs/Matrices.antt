@@ -1,6 +1,5 @@
 -- Operations on complex numbers and on matrices keep bounds by powers of two, with another exponent.
 use Prim.Native.Nat.{ℕ, zero, suc, _+_, _*_, _/_, _%_, _≤_, _<_}
-use mathlib.Core.Bool.{true}
 use mathlib.Core.List.{List, [], _∷_}
 use mathlib.Core.Path.{_≡_, subst}
 use native.Mathlib.Omega.{arith}
@@ -8,16 +7,15 @@ use lib.Dec.{T, leb, lit≤}
 use lib.ListN.{getD, set}
 use lib.Ieee.{Float}
 use Rattle.loops.specs.Loops.{foldTo}
-use Rattle.loops.proofs.Laws.{each-all}
 use Rattle.complex.specs.declared.C64.{C64}
 use Rattle.mat.specs.declared.Su3.{Su3}
-use Rattle.complex.specs.Complex.{czero, cone, cnan, conjOf, cscale, cadd, csub, cmul, finiteEntry}
-use Rattle.mat.specs.Matrix.{at, ent, tabulate, each, zeroOf, identityOf, daggerOf, scaleOf, addOf, subOf, traceOf, reTr, finiteMatrix}
+use Rattle.complex.specs.Complex.{czero, cnan, conjOf, cscale, cadd, csub, cmul}
+use Rattle.mat.specs.Matrix.{at, ent, tabulate, each, daggerOf, scaleOf, addOf, subOf, traceOf, reTr}
 use Rattle.mat.specs.Product.{sum3, rowCol, rowRow, colCol, mulOf, mulDagOf, dagMulOf}
 use Rattle.mat.specs.Traceless.{antiOf, subDiag, tracelessOf}
 use Rattle.mat.proofs.Entries.{table-at}
 use Rattle.bounds.specs.Magnitude.{Magnitude}
-use Rattle.bounds.proofs.Numbers.{magnitude-mono, magnitude-neg, magnitude-mul, magnitude-add, magnitude-sub, magnitude-finite, sum-grows, magnitude-zero, magnitude-one, magnitude-half, magnitude-third}
+use Rattle.bounds.proofs.Numbers.{magnitude-mono, magnitude-neg, magnitude-mul, magnitude-add, magnitude-sub, sum-grows, magnitude-zero, magnitude-half, magnitude-third}
 
 -- both parts of a complex number
 pub record ComplexMagnitude (k : ℕ) (z : C64) : Type 0 where
@@ -33,10 +31,6 @@ pub record MatrixMagnitude (k : ℕ) (u : Su3) : Type 0 where
 module _ {z : C64} where
   pub complex-mono : {j k : ℕ} → j ≤ k → ComplexMagnitude j z → ComplexMagnitude k z
   complex-mono h a = record { re = magnitude-mono h (a .re); im = magnitude-mono h (a .im) }
-
-  pub complex-finite : {k : ℕ} → k ≤ 1023 → ComplexMagnitude k z → finiteEntry z ≡ true
-  unfolding finiteEntry
-  complex-finite h a = rw (magnitude-finite h (a .re), magnitude-finite h (a .im))
 
   pub magnitude-conjOf : {k : ℕ} → ComplexMagnitude k z → ComplexMagnitude k (conjOf z)
   unfolding conjOf
@@ -64,9 +58,6 @@ module _ {z : C64} where
 
 pub magnitude-czero : {k : ℕ} → ComplexMagnitude k czero
 magnitude-czero = record { re = magnitude-zero; im = magnitude-zero }
-
-pub magnitude-cone : ComplexMagnitude 0 cone
-magnitude-cone = record { re = magnitude-one; im = magnitude-zero }
 
 pub complex-sum : {z : C64} {f : ℕ → C64} {k : ℕ} → ComplexMagnitude k z → (n : ℕ) → ((i : ℕ) → i < n → ComplexMagnitude k (f i)) → ComplexMagnitude (k + n) (foldTo cadd z f n)
 complex-sum = sum-grows ComplexMagnitude cadd (λ z j k. complex-mono) (λ z w k. magnitude-cadd)
@@ -102,21 +93,11 @@ magnitude-diagonal {u} {x} {y} a b c d = record {
   entry = λ i g. magnitude-set d (set (set (u .m) 0 x) 4 y) 8 i (magnitude-set c (set (u .m) 0 x) 4 i (magnitude-set b (u .m) 0 i (a .entry i g)));
 }
 
-pub magnitude-zeroOf : {k : ℕ} → MatrixMagnitude k zeroOf
-magnitude-zeroOf = magnitude-each (λ i g. magnitude-czero)
-
-pub magnitude-identityOf : MatrixMagnitude 0 identityOf
-magnitude-identityOf = magnitude-diagonal magnitude-zeroOf magnitude-cone magnitude-cone magnitude-cone
-
 -- ## Entry by entry
 
 module _ {u : Su3} where
   pub matrix-mono : {j k : ℕ} → j ≤ k → MatrixMagnitude j u → MatrixMagnitude k u
   matrix-mono h a = record { entry = λ i g. complex-mono h (a .entry i g) }
-
-  pub matrix-finite : {k : ℕ} → k ≤ 1023 → MatrixMagnitude k u → finiteMatrix u ≡ true
-  unfolding finiteMatrix
-  matrix-finite h a = each-all _ 9 (λ i g. complex-finite h (a .entry i g))
 
   pub magnitude-daggerOf : {k : ℕ} → MatrixMagnitude k u → MatrixMagnitude k (daggerOf u)
   unfolding daggerOf

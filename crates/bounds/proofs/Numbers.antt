@@ -17,7 +17,7 @@ use lib.Ieee.Order.{drop, kept}
 use lib.Ieee.Scale.{finite}
 use borrow.Author.Tests.{ltb-true, eqb-true}
 use Rattle.loops.specs.Loops.{foldTo}
-use Rattle.complex.specs.Rounded.{_⊞_, _⊟_, _⊠_, fzero, fone, fhalf, fthree, inverse}
+use Rattle.complex.specs.Rounded.{_⊞_, _⊟_, _⊠_, fzero, fhalf, fthree, inverse}
 use Rattle.bounds.specs.Magnitude.{AtMost, Magnitude, withinTwo}
 use Rattle.bounds.specs.Claims.{MagnitudesAreKept}
 
@@ -114,9 +114,6 @@ at-most-add f k (fin s m e) (fin t n d) K a b =
 
 -- ## The laws
 
-pub magnitude-round : (s : Bool) (a c k : ℕ) → 0 < c → a ≤ 2 ^ k * c → Magnitude k (round binary64 s a c)
-magnitude-round s a c k C h = record { bound = λ g. at-most-round binary64 s a c k C g h }
-
 module _ {x : Float} where
   pub magnitude-mono : {j k : ℕ} → j ≤ k → Magnitude j x → Magnitude k x
   magnitude-mono {j} {k} h a = record { bound = λ g. at-most-mono j k x h (a .bound (omega arith)) }
@@ -152,18 +149,11 @@ module _ {A : Type 0} (Bound : ℕ → A → Type 0) (op : A → A → A) (mono 
       mono _ (k + n + 1) (k + suc n) (omega arith)
       (grows _ (f n) (k + n) (sum-grows a n (λ i g. h i (omega arith))) (mono (f n) k (k + n) (omega arith) (h n (omega arith))))
 
-pub magnitude-sum : {z : Float} {f : ℕ → Float} {k : ℕ} → Magnitude k z → (n : ℕ) → ((i : ℕ) → i < n → Magnitude k (f i)) → Magnitude (k + n) (foldTo (add binary64) z f n)
-magnitude-sum = sum-grows Magnitude (add binary64) (λ x j k. magnitude-mono) (λ x y k. magnitude-add)
-
 -- ## The numbers that the formulas name
 
 pub magnitude-zero : {k : ℕ} → Magnitude k fzero
 unfolding ofBits
 magnitude-zero = record { bound = λ g. omega arith }
-
-pub magnitude-one : Magnitude 0 fone
-unfolding ofBits
-magnitude-one = record { bound = λ g. lit≤ tt }
 
 pub magnitude-half : Magnitude 0 fhalf
 unfolding ofBits

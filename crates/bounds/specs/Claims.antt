@@ -1,4 +1,4 @@
--- The operations keep bounds, each with its new exponent, for any exponents.
+-- What the operations make of a bound, for any exponents; the test gives the first bound, and a bound gives finiteness.
 use Prim.Native.Nat.{ℕ, _+_, _≤_}
 use mathlib.Core.Bool.{true}
 use mathlib.Core.Path.{_≡_}
@@ -12,6 +12,5 @@ pub record MagnitudesAreKept : Type 0 where
   pub sum : (k : ℕ) (x y : Float) → Magnitude k x → Magnitude k y → Magnitude (k + 1) (x ⊞ y)
   pub difference : (k : ℕ) (x y : Float) → Magnitude k x → Magnitude k y → Magnitude (k + 1) (x ⊟ y)
   pub negation : (k : ℕ) (x : Float) → Magnitude k x → Magnitude k (neg x)
-  -- a number that passes the test has a bound, and one with a bound that f64 reaches is finite
   pub tested : (x : Float) → withinTwo x ≡ true → Magnitude 1 x
   pub bounded : (k : ℕ) (x : Float) → k ≤ 1023 → Magnitude k x → finite x ≡ true

@@ -1,5 +1,5 @@
 -- Bounds on f64 by powers of two, and the test that a list's numbers are from −2 to 2.
-use Prim.Native.Nat.{ℕ, _*_, _^_, _<_, _≤_}
+use Prim.Native.Nat.{ℕ, _*_, _^_, _≤_}
 use mathlib.Core.Bool.{Bool, _&&_}
 use mathlib.Core.List.{List}
 use lib.Ieee.{Float, nan, inf, fin, binary64, up, down, neg, le, ofBits}

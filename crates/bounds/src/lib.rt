@@ -1,4 +1,4 @@
-// Bounds on numbers by powers of two. The laws in proofs/ say what the operations make of a bound; the
+// Bounds on numbers by powers of two. specs/Claims.antt says what the operations make of a bound; the
 // test here gives the numbers of a list their first one.
 ghost use mathlib.Core.Path.{_≡_};
 ghost use Rattle.bounds.specs.Magnitude.{allWithinTwo};

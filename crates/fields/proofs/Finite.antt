@@ -1,5 +1,5 @@
--- A field whose numbers are from −2 to 2 has finite densities: every number on the way is below a power of two that f64 reaches.
-use Prim.Native.Nat.{ℕ, suc, _<_, _≤_}
+-- A field whose numbers are from −2 to 2 has finite densities: every number on the way is at most a power of two that f64 reaches.
+use Prim.Native.Nat.{ℕ, suc, _<_}
 use mathlib.Core.Bool.{true}
 use mathlib.Core.List.{List}
 use mathlib.Core.Path.{_≡_, sym, _∙_}

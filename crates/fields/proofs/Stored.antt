@@ -9,11 +9,11 @@ use Rattle.gauge.proofs.Lists.{links-of}
 use Rattle.strength.specs.Densities.{densityOf}
 use Rattle.stout.proofs.Laws.{stout-nine}
 use Rattle.fields.specs.Calls.{smeared, smearRow, smearedList, densityRow, densityList}
-use Rattle.fields.specs.Claims.{StepReadsOneList, StepHoldsStoutLinks, ListHoldsDensity}
+use Rattle.fields.specs.Claims.{SmearReadsOneList, SmearHoldsStoutLinks, ListHoldsDensity}
 
-pub step-reads-one-list : StepReadsOneList
+pub smear-reads-one-list : SmearReadsOneList
 unfolding smearRow
-step-reads-one-list d rho l old other same r s exit exit' one two =
+smear-reads-one-list d rho l old other same r s exit exit' one two =
     let rows : smearRow d rho l old ≡ smearRow d rho l other = rw same in (
       one .answer ∙ rw rows (sym (two .answer)),
       λ none.
@@ -21,9 +21,9 @@ step-reads-one-list d rho l old other same r s exit exit' one two =
           one .list ∙ if-accepted (smearedList d rho l) old zero ∙ sym (two .list ∙ if-accepted (smearedList d rho l) other (sym rows ∙ zero)),
     )
 
-pub step-holds-stout-links : StepHoldsStoutLinks
+pub smear-holds-stout-links : SmearHoldsStoutLinks
 unfolding smearedList
-step-holds-stout-links d rho l old r exit call none mu n axis below =
+smear-holds-stout-links d rho l old r exit call none mu n axis below =
     let zero : smearRow d rho l old ≡ 0 = rw (call .answer) at none in
     let list = call .list ∙ if-accepted (smearedList d rho l) old zero in
     rw list (links-of d (smeared d (linkOf d l) rho) (λ mu n. stout-nine d (linkOf d l) 12 rho n mu) mu n axis below)

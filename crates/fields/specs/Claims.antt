@@ -20,13 +20,13 @@ abbrev pub SmallFieldsAreFinite : Type 0
 SmallFieldsAreFinite = (d : List ℕ) (l : List Float) → Holds d l → allWithinTwo l ≡ true → (kind : Density) → InSpace kind → finiteNumbers (densityList d kind l) ≡ true
 
 -- a stout step reads the unsmeared list alone: whatever the second list held, the answer is the same, and what an accepted call leaves there
-abbrev pub StepReadsOneList : Type 0
-StepReadsOneList = (d : List ℕ) (rho : Float) (l old other : List Float) → length old ≡ length other → (r s : ListAnswer) (exit exit' : List Float)
+abbrev pub SmearReadsOneList : Type 0
+SmearReadsOneList = (d : List ℕ) (rho : Float) (l old other : List Float) → length old ≡ length other → (r s : ListAnswer) (exit exit' : List Float)
     → SmearCall d rho l old r exit → SmearCall d rho l other s exit' → (r ≡ s) × (r .refusal ≡ 0 → exit ≡ exit')
 
 -- an accepted step leaves a list whose links are what `stout_link` gives, link by link
-abbrev pub StepHoldsStoutLinks : Type 0
-StepHoldsStoutLinks = (d : List ℕ) (rho : Float) (l old : List Float) (r : ListAnswer) (exit : List Float) → SmearCall d rho l old r exit → r .refusal ≡ 0
+abbrev pub SmearHoldsStoutLinks : Type 0
+SmearHoldsStoutLinks = (d : List ℕ) (rho : Float) (l old : List Float) (r : ListAnswer) (exit : List Float) → SmearCall d rho l old r exit → r .refusal ≡ 0
     → (mu n : ℕ) → mu < 4 → n < volume d → linkOf d exit mu n ≡ stoutOf d (linkOf d l) 12 rho n mu
 
 -- and an accepted density call one whose numbers are the density, site by site

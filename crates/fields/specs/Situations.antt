@@ -1,5 +1,5 @@
--- The situations that these calls add to the lattice's, and the rows of calls that the lattice's do not have, in the order in which they are tried; row 10 comes
--- after them. The rows of `clover_leaves` and `field_strength_at` are the lattice's `planeRows` and `fieldSiteRows`.
+-- The situations that these calls add to the lattice's, and the rows of those calls whose rows the lattice does not have, in the order in which they are tried;
+-- row 10 comes after them. The rows of `clover_leaves` and `field_strength_at` are the lattice's `planeRows` and `fieldSiteRows`.
 use Prim.Native.Nat.{ℕ}
 use mathlib.Core.Bool.{Bool, false, not}
 use mathlib.Core.List.{List, [], _∷_}

@@ -23,7 +23,7 @@ plaquetteOf d U n mu nu = plaquetteAt U mu nu n (fwdOf d n mu) (fwdOf d n nu)
 abbrev pub diagonalAt : List Float → ℕ → ℕ → ℕ → ℕ → ℕ → Float
 diagonalAt l a b c e i = rowRow (mulOf (matrixAt l a) (matrixAt l b)) (mulOf (matrixAt l c) (matrixAt l e)) i i .re
 
--- three sites of a plaquette are sites, and its directions directions
+-- n, f and g are sites, μ and ν directions, of a list that holds a field
 pub record Corners (l : List Float) (v mu nu n f g : ℕ) : Type 0 where
   pub sized : Sized l v
   pub axis : mu < 4

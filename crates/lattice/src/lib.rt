@@ -9,6 +9,7 @@ mod sites;
 pub use check::link_check;
 pub use cold_start::cold;
 pub use judges::bad_coupling;
+pub use judges::extents_row;
 pub use judges::field_row;
 pub use judges::field_site_row;
 pub use judges::link_row;

@@ -20,7 +20,7 @@ at u i j = getD (u .m) (3 * i + j) cnan
 abbrev pub ent : Su3 → ℕ → C64
 ent u k = getD (u .m) k cnan
 
--- the p-th of several matrices
+-- the p-th of several matrices; past the end one without entries
 abbrev pub nthMatrix : List Su3 → ℕ → Su3
 nthMatrix f p = getD f p (record { m = [] })
 

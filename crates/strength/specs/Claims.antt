@@ -1,4 +1,4 @@
--- Which links a clover and a density depend on, what the action density's electric half adds up, and the charge's factor.
+-- Which links a clover and a density depend on, that the action density begins with its electric half, and the charge's factor.
 use Prim.Native.Nat.{ℕ, suc, _<_}
 use mathlib.Core.List.{List}
 use mathlib.Core.Path.{_≡_}

@@ -1,4 +1,4 @@
--- `Clover` and `Densities` define, over the field function U, what the functions compute; `Claims` says which links it depends on, and what follows of the sums.
+-- `Clover` and `Densities` define, over the field function U, what the functions compute; `Claims` says which links it depends on, and what holds of the sums.
 pub mod Clover
 pub mod Densities
 pub mod Claims

@@ -13,8 +13,9 @@ pub fn open_row(plan: Plan, direction: usize, parity: usize) -> u32
     ensures { λ r. ⌜ Judged (openRows plan direction parity) (plan .pass ≡ 2 ^ 64 - 1 → ⊥) r ⌝ }
 {
     let d = plan.extents;
-    if !geometry::fits(d) {
-        return 1;
+    let row = lattice::extents_row(d);
+    if row != 0 {
+        return row;
     }
     if lattice::bad_coupling(plan.coupling) {
         return 2;
@@ -66,8 +67,9 @@ pub fn finished_row(job: Job) -> u32
     ensures { λ r. ⌜ Judged (finishedRows job) (Shape (job .extents)) r ⌝ }
 {
     let d = job.extents;
-    if !geometry::fits(d) {
-        return 1;
+    let row = lattice::extents_row(d);
+    if row != 0 {
+        return row;
     }
     if bad_job(job) {
         return 8;
