@@ -5,7 +5,7 @@ use crate::Su3;
 use complex::C64;
 
 // Entry (i, j) of a·b.
-pub fn row_col(a: Su3, b: Su3, i: usize, j: usize) -> C64
+fn row_col(a: Su3, b: Su3, i: usize, j: usize) -> C64
     requires { ⌜ (i < 3) × (j < 3) ⌝ }
     ensures { λ r. ⌜ r ≡ rowCol a b i j ⌝ }
 {
@@ -47,6 +47,24 @@ fn col_col(a: Su3, b: Su3, i: usize, j: usize) -> C64
 }
 
 // Nine calls, not loops over i and j: these are twice as fast.
+// a·b, as `mul` has it: a function with one caller, which the compiler puts into the series' loop, where a
+// call would copy three matrices a turn.
+pub fn times(a: Su3, b: Su3) -> Su3
+    ensures { λ r. ⌜ r ≡ mulOf a b ⌝ }
+{
+    let mut m = Su3::ZERO.m;
+    m[0] = row_col(a, b, 0, 0);
+    m[1] = row_col(a, b, 0, 1);
+    m[2] = row_col(a, b, 0, 2);
+    m[3] = row_col(a, b, 1, 0);
+    m[4] = row_col(a, b, 1, 1);
+    m[5] = row_col(a, b, 1, 2);
+    m[6] = row_col(a, b, 2, 0);
+    m[7] = row_col(a, b, 2, 1);
+    m[8] = row_col(a, b, 2, 2);
+    Su3 { m }
+}
+
 impl Su3 {
     pub fn mul(self, o: Su3) -> Self
         ensures { λ r. ⌜ r ≡ mulOf self o ⌝ }

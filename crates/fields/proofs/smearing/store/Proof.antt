@@ -43,7 +43,16 @@ store-requires : tie.Need-store-requires Inv-loop μ-loop
 store-requires c κs = let q = c .before .before .before .before .before .before .before .pre in let i = c .before .before .before .loop .inv .1 in let h = c .before .before .loop-test .taken in let v = c .before .before .before .before .sites .ensures in omega (arith, q .1)
 
 loop-again : tie.Need-loop-again Inv-loop μ-loop
-loop-again c = let q = c .before .before .before .before .before .before .before .before .before .before .pre in let i = c .before .before .before .before .before .before .loop .inv in let k = c .before .before .before .before .before .before .loop .k in let h = c .before .before .before .before .before .loop-test .taken in let v = c .before .before .before .before .before .before .before .sites .ensures in let e = c .before .before .store .ensures in let is = rw v at (c .before .before .before .before .stout-link .ensures) in let room : 18 * k + 18 ≤ length (c .before .before .before .before .before .before .loop .smeared) = omega (arith, i .1, q .1, v, h) in (omega arith, rw (e, length-withMatrix) (i .1), λ j g. rw e (store-next _ _ k _ room (rw is (stout-nine _ _ _ _ _ _)) is (i .2) j g))
+loop-again c =
+    let q = c .before .before .before .before .before .before .before .before .before .before .pre in
+    let i = c .before .before .before .before .before .before .loop .inv in
+    let k = c .before .before .before .before .before .before .loop .k in
+    let h = c .before .before .before .before .before .loop-test .taken in
+    let v = c .before .before .before .before .before .before .before .sites .ensures in
+    let e = c .before .before .store .ensures in
+    let is = rw v at (c .before .before .before .before .stout-link .ensures) in
+    let room : 18 * k + 18 ≤ length (c .before .before .before .before .before .before .loop .smeared) = omega (arith, i .1, q .1, v, h) in
+    (omega arith, rw (e, length-withMatrix) (i .1), λ j g. rw e (store-next _ _ k _ room (rw is (stout-nine _ _ _ _ _ _)) is (i .2) j g))
 
 same-length : tie.Need-same-length Inv-loop μ-loop
 same-length c = c .before .loop .inv .1

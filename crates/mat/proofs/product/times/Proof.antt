@@ -1,7 +1,7 @@
 use borrow.Author.Needs.{needs}
 use Rattle.mat.specs.Product.{mulOf}
-use Rattle.mat.proofs.exponential.times.Statement.{statement}
-use Rattle.mat.proofs.exponential.times.Tie as tie
+use Rattle.mat.proofs.product.times.Statement.{statement}
+use Rattle.mat.proofs.product.times.Tie as tie
 
 returns : tie.Need-returns
 unfolding mulOf
