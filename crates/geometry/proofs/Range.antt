@@ -1,12 +1,14 @@
 -- A list by its rule: f 0, f 1, .., f (k - 1).
 use Prim.Native.Nat.{ℕ, zero, suc, _<_, _≤_}
-use mathlib.Core.List.{[], _∷_, _++_, map, map-append}
-use mathlib.Core.Path.{_≡_, refl, _∙_}
+use mathlib.Core.List.{List, [], _∷_, _++_, map, map-append}
+use mathlib.Core.Path.{_≡_, refl, ap, sym, _∙_}
 use native.Mathlib.Decide.{decLt}
 use native.Mathlib.Numerals.{add-one}
 use native.Mathlib.Omega.{arith}
-use lib.ListN.{length, getD, take, length-append, List·getD-append}
-use lib.Seq.{getD-at, take-append-le, take-all}
+use lib.ListN.{length, getD, take, drop, length-append, List·getD-append, take-append-drop}
+use lib.Seq.{getD-at, take-append-le, take-all, take-suc-set, drop-set-lt}
+use Rattle.loops.specs.Loops.{fill}
+use Rattle.loops.proofs.Laws.{length-fill}
 use Rattle.geometry.specs.Range.{range}
 
 module _ {A : Type 0} (f : ℕ → A) where
@@ -34,3 +36,19 @@ module _ {A : Type 0} (f : ℕ → A) where
       go : (j ≤ k → take j (map f (range k)) ≡ map f (range j)) → Dec (j < suc k) → take j (map f (range (suc k))) ≡ map f (range j)
       go ih (yes q) = rw (listed-next k) (take-append-le j (map f (range k)) (f k ∷ []) (rw (length-listed k) (omega arith)) ∙ ih (omega arith))
       go ih (no q) = let e : j ≡ suc k = omega arith in rw e (take-all (suc k) (map f (range (suc k))) (rw (length-listed (suc k)) (omega arith)))
+
+  -- ## a list of which the first places are filled
+  pub take-fill : (l : List A) (n : ℕ) → n ≤ length l → take n (fill f l n) ≡ map f (range n)
+  unfolding fill
+  take-fill l zero h = unfold range in refl
+  take-fill l (suc n) h =
+      take-suc-set (fill f l n) n (f n) (rw (length-fill f l n) (omega arith))
+      ∙ ap (λ (k : List A). k ++ (f n ∷ [])) (take-fill l n (omega arith)) ∙ sym (listed-next n)
+
+  pub drop-fill : (l : List A) (n k : ℕ) → n ≤ k → drop k (fill f l n) ≡ drop k l
+  unfolding fill
+  drop-fill l zero k h = refl
+  drop-fill l (suc n) k h = drop-set-lt k (fill f l n) n (f n) (omega arith) ∙ drop-fill l n k (omega arith)
+
+  pub fill-front : (l : List A) (n : ℕ) → n ≤ length l → fill f l n ≡ map f (range n) ++ drop n l
+  fill-front l n h = sym (take-append-drop n (fill f l n)) ∙ rw (take-fill l n h, drop-fill l n n (omega arith))

@@ -1,0 +1,22 @@
+-- How the code finds the best axis: the best so far with its distance, against the next axis.
+use Prim.Native.Nat.{ℕ}
+use mathlib.Core.Bool.{true, false, cond}
+use mathlib.Core.List.{List}
+use lib.IntN.{ℤ}
+use lib.Ieee.{lt}
+use Rattle.complex.specs.Rounded.{fzero}
+use Rattle.stairs.specs.declared.Nearest.{Nearest}
+use Rattle.stairs.specs.Line.{alongOf}
+use Rattle.stairs.specs.Staircase.{differs, stepDist}
+
+abbrev pub noneFound : Nearest
+noneFound = record { found = false; axis = 0; dist = fzero }
+
+abbrev pub foundAt : List ℤ → List ℤ → ℕ → Nearest
+foundAt p d a = record { found = true; axis = a; dist = stepDist p d a }
+
+unfoldable pub nearerOf : List ℤ → List ℤ → Nearest → ℕ → Nearest
+nearerOf p d best a =
+    cond (differs (alongOf p a) (alongOf d a))
+    (cond (best .found) (cond (lt (stepDist p d a) (best .dist)) (foundAt p d a) best) (foundAt p d a))
+    best
