@@ -2,10 +2,14 @@
 use Prim.Native.Nat.{ℕ, _+_, _-_, _<_, _≤_}
 use mathlib.Core.Bool.{cond}
 use mathlib.Core.List.{List, map}
+use mathlib.Core.Path.{_≡_}
 use lib.Dec.{ltb}
 use lib.ListN.{take}
 use Rattle.geometry.specs.Range.{range}
+use Rattle.geometry.specs.declared.Spot.{Spot}
 use Rattle.geometry.specs.Radix.{volume}
+use Rattle.geometry.specs.Shape.{Shape}
+use Rattle.geometry.specs.Steps.{spotOf}
 
 -- the product of the extents before the axis mu
 unfoldable pub strideOf : List ℕ → ℕ → ℕ
@@ -30,3 +34,11 @@ pub record Step (n c e s w : ℕ) : Type 0 where
   pub within : c < 16
   pub last : e ≤ c + 1 → w ≤ n + s
   pub back : 0 < c → s ≤ n
+
+-- a spot and an axis to step along, with the strides at hand
+pub record Standing (d s : List ℕ) (p : Spot) (mu : ℕ) : Type 0 where
+  pub shape : Shape d
+  pub strides : s ≡ stridesOf d
+  pub below : p .site < volume d
+  pub spot : p ≡ spotOf d (p .site)
+  pub axis : mu < 4

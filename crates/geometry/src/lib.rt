@@ -12,6 +12,12 @@ pub struct Near {
     pub down: [usize; 4],
 }
 
+// A site and its coordinates t, x, y, z.
+pub struct Spot {
+    pub site: usize,
+    pub at: [usize; 4],
+}
+
 // Whether an extent is even and from 2 to 16.
 pub fn extent_fits(e: usize) -> bool
     ensures { λ r. ⌜ r ≡ extentTest e ⌝ }

@@ -1,11 +1,12 @@
 // Steps from site to site: along an axis, to all neighbours, to the next number.
 use geometry::Near;
+use geometry::Spot;
 ghost use mathlib.Core.Path.{_≡_};
-ghost use Prim.Native.Nat.{_<_};
+ghost use Prim.Native.Nat.{_+_, _-_, _%_, _<_};
 ghost use Rattle.geometry.specs.Radix.{volume, coordsOf, nextOf, Within};
 ghost use Rattle.geometry.specs.Shape.{Shape};
-ghost use Rattle.geometry.specs.Steps.{movedOf, fwdOf, bwdOf, nearOf};
-ghost use Rattle.geometry.specs.Stride.{stridesOf, upOf, downOf, Step};
+ghost use Rattle.geometry.specs.Steps.{movedOf, fwdOf, bwdOf, nearOf, spotOf};
+ghost use Rattle.geometry.specs.Stride.{stridesOf, upOf, downOf, Step, Standing};
 
 // How far apart neighbours are along each axis, and last the number of sites.
 pub fn strides(d: [usize; 4]) -> [usize; 5]
@@ -84,6 +85,55 @@ pub fn neighbours(d: [usize; 4], n: usize) -> Near
     ensures { λ r. ⌜ r ≡ nearOf d n ⌝ }
 {
     neighbours_at(d, strides(d), geometry::coords(d, n), n)
+}
+
+// A site with its coordinates. Steps from there need no division.
+pub fn spot(d: [usize; 4], n: usize) -> Spot
+    requires { ⌜ Shape d × (n < volume d) ⌝ }
+    ensures { λ r. ⌜ r ≡ spotOf d n ⌝ }
+{
+    let c = geometry::coords(d, n);
+    Spot { site: n, at: c }
+}
+
+// The coordinate after c, wrapping at e.
+fn coord_up(c: usize, e: usize) -> usize
+    requires { ⌜ (c < e) × (e < 65536) ⌝ }
+    ensures { λ r. ⌜ r ≡ (c + 1) % e ⌝ }
+{
+    if c + 1 < e { c + 1 } else { 0 }
+}
+
+// The coordinate before c, wrapping at e.
+fn coord_down(c: usize, e: usize) -> usize
+    requires { ⌜ (c < e) × (e < 65536) ⌝ }
+    ensures { λ r. ⌜ r ≡ (c + (e - 1)) % e ⌝ }
+{
+    if 0 < c { c - 1 } else { e - 1 }
+}
+
+// The next spot along an axis.
+pub fn up(d: [usize; 4], s: [usize; 5], p: Spot, mu: usize) -> Spot
+    requires { ⌜ Standing d s p mu ⌝ }
+    ensures { λ r. ⌜ r ≡ spotOf d (fwdOf d (p .site) mu) ⌝ }
+{
+    let mut c = p.at;
+    let site = step_up(p.site, c[mu], d[mu], s[mu], s[mu + 1]);
+    let k = coord_up(c[mu], d[mu]);
+    c[mu] = k;
+    Spot { site, at: c }
+}
+
+// The spot before along an axis.
+pub fn down(d: [usize; 4], s: [usize; 5], p: Spot, mu: usize) -> Spot
+    requires { ⌜ Standing d s p mu ⌝ }
+    ensures { λ r. ⌜ r ≡ spotOf d (bwdOf d (p .site) mu) ⌝ }
+{
+    let mut c = p.at;
+    let site = step_down(p.site, c[mu], d[mu], s[mu], s[mu + 1]);
+    let k = coord_down(c[mu], d[mu]);
+    c[mu] = k;
+    Spot { site, at: c }
 }
 
 // The coordinates of the site with the next number, from a site's: a walk over all sites needs no division.
