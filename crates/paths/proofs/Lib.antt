@@ -1,0 +1,3 @@
+pub mod Walks
+pub mod Contraction
+pub mod Quarks
