@@ -17,6 +17,7 @@ pub use judges::plane_row;
 pub use observables::action;
 pub use observables::average_plaquette;
 pub use observables::judged_matrix;
+pub use observables::judged_number;
 pub use observables::plaquette;
 pub use observables::polyakov_loop;
 pub use observables::staple;

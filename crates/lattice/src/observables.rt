@@ -33,7 +33,7 @@ pub fn judged_matrix(u: Su3) -> MatrixAnswer
 }
 
 // A number as an answer.
-fn judged_number(x: f64) -> Number
+pub fn judged_number(x: f64) -> Number
     ensures { λ r. ⌜ r ≡ numberOf (firstRow ((badNumber x, 10) ∷ [])) x ⌝ }
 {
     if !rows::is_finite(x) {

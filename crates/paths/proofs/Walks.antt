@@ -140,7 +140,7 @@ later-next d n t {p} now b =
 -- ## where they end
 
 module _ (d : List ℕ) (shape : Shape d) (U : Field) where
-  step-below : (w : Transporter) (s : Step) → s .axis < 4 → stepOf d U w s .site < volume d
+  pub step-below : (w : Transporter) (s : Step) → s .axis < 4 → stepOf d U w s .site < volume d
   unfolding stepOf
   step-below w s axis = go (s .forward)
     where

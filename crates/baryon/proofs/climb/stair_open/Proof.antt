@@ -1,0 +1,26 @@
+use borrow.Author.Needs.{needs}
+use Rattle.baryon.proofs.climb.stair_open.Statement.{statement}
+use Rattle.baryon.proofs.climb.stair_open.Tie as tie
+use Rattle.baryon.proofs.climb.stair_open.Reads as reads
+use Rattle.baryon.proofs.climb.stair_open.Lts as lts
+use Rattle.baryon.proofs.judges.stair_row.Reads as stair-row-reads
+use Rattle.stairs.proofs.steps_to.Reads as steps-to-reads
+
+-- src/climb.rt:20:9
+stair-row-requires : tie.Need-stair-row-requires
+stair-row-requires c κs = search needs
+
+-- src/climb.rt:22:9
+returns : tie.Need-returns
+returns c = ?
+
+-- src/climb.rt:29:9
+steps-to-requires : tie.Need-steps-to-requires
+steps-to-requires c κs = ?
+
+-- src/climb.rt:12:1
+returns-2 : tie.Need-returns-2
+returns-2 c = ?
+
+pub stair-open-spec : {M : Type 1} → statement M
+stair-open-spec = tie.close (tie.spec stair-row-requires returns steps-to-requires returns-2)

@@ -1,0 +1,52 @@
+-- What each call answers, and what the list of steps holds afterwards.
+use Prim.Native.Nat.{ℕ}
+use mathlib.Core.List.{List, _++_}
+use mathlib.Core.Path.{_≡_}
+use lib.Ieee.{Float}
+use lib.IntN.{ℤ}
+use lib.ListN.{length, drop}
+use Rattle.rows.specs.declared.Count.{Count}
+use Rattle.rows.specs.declared.Number.{Number}
+use Rattle.rows.specs.Rows.{firstRow, ifAccepted, finally}
+use Rattle.rows.specs.Answers.{IsNumber, IsCount}
+use Rattle.mat.specs.Matrix.{zeroOf}
+use Rattle.gauge.specs.Field.{linkOf}
+use Rattle.lattice.specs.Situations.{badNumber, badMatrix}
+use Rattle.stairs.specs.declared.Step.{Step}
+use Rattle.stairs.specs.Staircase.{stepsTo, staircaseOf}
+use Rattle.paths.specs.Path.{Transporter, pathOf, lineOf}
+use Rattle.paths.specs.Baryon.{baryonOf}
+use Rattle.baryon.specs.declared.PathAnswer.{PathAnswer}
+use Rattle.baryon.specs.Situations.{stairRows, pathRows, lineRows, loopRows}
+
+-- ## The staircase: steps to the front, later places stay
+
+abbrev pub staircaseRow : List ℤ → List Step → ℕ
+staircaseRow o old = firstRow (stairRows o (length old))
+
+pub record StaircaseCall (o : List ℤ) (old : List Step) (r : Count) (exit : List Step) : Type 0 where
+  pub count : IsCount (staircaseRow o old) (stepsTo o) r
+  pub list : exit ≡ ifAccepted (staircaseRow o old) (staircaseOf o ++ drop (stepsTo o) old) old
+
+-- ## Products of links
+
+unfoldable pub pathAnswer : ℕ → Transporter → PathAnswer
+pathAnswer row w = record { refusal = row; matrix = ifAccepted row (w .u) zeroOf; site = ifAccepted row (w .site) 0 }
+
+unfoldable pub pathCall : List ℕ → ℕ → List Float → List Step → PathAnswer
+pathCall d n l steps =
+    let w = pathOf d (linkOf d l) n steps in
+    pathAnswer (finally (firstRow (pathRows d (length l) n steps)) (badMatrix (w .u), 10)) w
+
+unfoldable pub lineCall : List ℕ → ℕ → ℕ → List Float → PathAnswer
+lineCall d n t l =
+    let w = lineOf d (linkOf d l) n t in
+    pathAnswer (finally (firstRow (lineRows d (length l) n t)) (badMatrix (w .u), 10)) w
+
+-- ## The loop
+
+abbrev pub loopRow : List ℕ → ℕ → List ℤ → ℕ → List Float → ℕ
+loopRow d n o t l = finally (firstRow (loopRows d (length l) n o t)) (badNumber (baryonOf d (linkOf d l) t o n), 10)
+
+abbrev pub BaryonCall : List ℕ → ℕ → List ℤ → ℕ → List Float → Number → Type 0
+BaryonCall d n o t l r = IsNumber (loopRow d n o t l) (baryonOf d (linkOf d l) t o n) r

@@ -1,0 +1,50 @@
+-- The situations that these calls add to the lattice's, and their rows in the order in which they are tried; row 10 comes after them.
+use Prim.Native.Nat.{ℕ}
+use mathlib.Core.Bool.{Bool, false, _||_}
+use mathlib.Core.List.{List, [], _∷_}
+use lib.Dec.{ltb}
+use lib.ListN.{length}
+use lib.IntN.{ℤ}
+use Rattle.lattice.specs.Rows.{Rows}
+use Rattle.lattice.specs.Situations.{badExtents, badLinks, badSite}
+use Rattle.stairs.specs.declared.Step.{Step}
+use Rattle.stairs.specs.Offsets.{badOffsets, badQuarks}
+use Rattle.stairs.specs.Staircase.{stepsTo}
+
+-- 11: more than 96 steps
+unfoldable pub badCount : ℕ → Bool
+badCount n = ltb 96 n
+
+-- 11: a step axis above 3
+unfoldable pub badAxes : List Step → Bool
+badAxes [] = false
+badAxes (s ∷ steps) = ltb 3 (s .axis) || badAxes steps
+
+-- 11: a time length above 64
+unfoldable pub badTime : ℕ → Bool
+badTime t = ltb 64 t
+
+-- 12: room for fewer steps than are needed
+unfoldable pub badStepRoom : List ℤ → ℕ → Bool
+badStepRoom d room = ltb room (stepsTo d)
+
+-- ## Rows: d are extents, long the number of link numbers, n a site
+
+-- staircase; o is the offset
+abbrev pub stairRows : List ℤ → ℕ → Rows
+stairRows o room = (badOffsets o, 11) ∷ (badStepRoom o room, 12) ∷ []
+
+-- path, before and after its steps are looked at
+abbrev pub openRows : List ℕ → ℕ → ℕ → ℕ → Rows
+openRows d long n count = (badExtents d, 1) ∷ (badLinks d long, 3) ∷ (badSite d n, 4) ∷ (badCount count, 11) ∷ []
+
+abbrev pub pathRows : List ℕ → ℕ → ℕ → List Step → Rows
+pathRows d long n steps = (badExtents d, 1) ∷ (badLinks d long, 3) ∷ (badSite d n, 4) ∷ (badCount (length steps), 11) ∷ (badAxes steps, 11) ∷ []
+
+-- time_line
+abbrev pub lineRows : List ℕ → ℕ → ℕ → ℕ → Rows
+lineRows d long n t = (badExtents d, 1) ∷ (badLinks d long, 3) ∷ (badSite d n, 4) ∷ (badTime t, 11) ∷ []
+
+-- baryon_loop; o are the three offsets
+abbrev pub loopRows : List ℕ → ℕ → ℕ → List ℤ → ℕ → Rows
+loopRows d long n o t = (badExtents d, 1) ∷ (badLinks d long, 3) ∷ (badSite d n, 4) ∷ (badQuarks o, 11) ∷ (badTime t, 11) ∷ []

@@ -1,0 +1,30 @@
+// Staircases, paths, and the loop of three quarks: each call judges what it is handed by the rows of
+// its table, in order, and answers the row's number or what its definition says.
+mod climb;
+mod judges;
+mod quarks;
+mod walk;
+
+pub use climb::staircase;
+pub use quarks::baryon_loop;
+pub use walk::path;
+pub use walk::time_line;
+
+use mat::Su3;
+use stairs::Step;
+
+// A product of links and the site where it ends, and 0; or the row that refuses the call, and zeros.
+pub struct PathAnswer {
+    pub refusal: u32,
+    pub matrix: Su3,
+    pub site: usize,
+}
+
+// A staircase on the way: the row that refuses the call or 0, how many steps there are, the place so
+// far, and the step that led there.
+pub struct Stair {
+    pub row: u32,
+    pub count: usize,
+    pub at: [i32; 3],
+    pub step: Step,
+}
