@@ -1,18 +1,21 @@
 -- The path on the way is the path: what each step may count on, and the answer at the end.
-use Prim.Native.Nat.{ℕ, zero, suc, _*_, _<_}
+use Prim.Native.Nat.{ℕ, zero, suc, _*_, _<_, _≤_}
 use mathlib.Core.Bool.{Bool, true, false, cond, _||_}
 use mathlib.Core.List.{List, [], _∷_, _++_}
 use mathlib.Core.Path.{_≡_, refl, ap, sym, _∙_}
 use native.Mathlib.Omega.{arith}
-use borrow.Author.Tests.{ltb-true, ltb-false, eqb-true, not-false}
+use borrow.Author.Tests.{lt-ltb, le-ltb, ltb-true, ltb-false, eqb-true, not-false}
 use lib.Dec.{ltb}
 use lib.ListN.{length}
 use lib.Ieee.{Float}
 use Rattle.rows.specs.Rows.{firstRow, ifAccepted, finally}
-use Rattle.rows.proofs.Laws.{row-passed, rows-refuse, rows-pass, if-accepted}
+use Rattle.rows.proofs.Laws.{row-passed, rows-refuse, rows-pass, if-refused, if-accepted}
+use Rattle.mat.specs.declared.Su3.{Su3}
 use Rattle.mat.specs.Matrix.{identityOf, zeroOf}
+use Rattle.mat.specs.Product.{mulOf, mulDagOf}
 use Rattle.geometry.specs.Radix.{volume}
 use Rattle.geometry.specs.Shape.{Shape}
+use Rattle.geometry.specs.Steps.{fwdOf, bwdOf}
 use Rattle.geometry.proofs.Shape.{fits-shape}
 use Rattle.links.specs.Field.{Field}
 use Rattle.gauge.specs.Field.{linkOf, Holds}
@@ -62,6 +65,37 @@ stepped-walkable {d} {l} {w} s h = go (w .refusal) refl
     go : (r : ℕ) → w .refusal ≡ r → Walkable d l (ifAccepted r (pathAnswer (cond (ltb 3 (s .axis)) 11 0) (stepOf d (linkOf d l) (transporterOf w) s)) w)
     go zero e = step (ltb 3 (s .axis)) refl e
     go (suc r) e = refused-walkable d l w (λ z. absurd (omega arith))
+
+-- ## one step
+
+module _ (d : List ℕ) (l : List Float) (w : PathAnswer) (s : Step) where
+  pub stepped-refused : (w .refusal ≡ 0 → ⊥) → w ≡ steppedOf d l w s
+  unfolding steppedOf
+  stepped-refused ne = sym (if-refused _ w (w .refusal) ne)
+
+  module _ (ok : w .refusal ≡ 0) where
+    pub stepped-off : 3 < s .axis → refusedBy 11 ≡ steppedOf d l w s
+    unfolding steppedOf ifAccepted pathAnswer firstRow
+    stepped-off h = rw (ok, lt-ltb _ _ h)
+
+    module _ (axis : s .axis ≤ 3) {m : Su3} {k : ℕ} where
+      pub stepped-forward : s .forward ≡ true → m ≡ mulOf (w .matrix) (linkOf d l (s .axis) (w .site)) → k ≡ fwdOf d (w .site) (s .axis)
+          → record { refusal = 0; matrix = m; site = k } ≡ steppedOf d l w s
+      unfolding steppedOf ifAccepted pathAnswer firstRow stepOf
+      stepped-forward f a b = rw (ok, le-ltb _ _ axis, f, a, b)
+
+      pub stepped-backward : s .forward ≡ false → k ≡ bwdOf d (w .site) (s .axis) → m ≡ mulDagOf (w .matrix) (linkOf d l (s .axis) k)
+          → record { refusal = 0; matrix = m; site = k } ≡ steppedOf d l w s
+      unfolding steppedOf ifAccepted pathAnswer firstRow stepOf
+      stepped-backward f b a = rw (ok, le-ltb _ _ axis, f, a, b)
+
+pub closed-refused : (w : PathAnswer) → (w .refusal ≡ 0 → ⊥) → w ≡ closedOf w
+unfolding closedOf
+closed-refused w ne = sym (if-refused _ w (w .refusal) ne)
+
+pub closed-judged : (w : PathAnswer) → w .refusal ≡ 0 → {r : PathAnswer} → r ≡ pathAnswer (firstRow ((badMatrix (w .matrix), 10) ∷ [])) (transporterOf w) → r ≡ closedOf w
+unfolding closedOf
+closed-judged w ok e = e ∙ sym (if-accepted _ w ok)
 
 -- ## the answer
 

@@ -1,3 +1,4 @@
 pub mod Walks
 pub mod Contraction
 pub mod Quarks
+pub mod Staircases

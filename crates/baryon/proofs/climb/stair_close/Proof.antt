@@ -1,3 +1,5 @@
+use mathlib.Core.Path.{_≡_, refl, ap, sym, _∙_}
+use Rattle.rows.specs.Answers.{countOf}
 use Rattle.baryon.proofs.climb.stair_close.Statement.{statement}
 use Rattle.baryon.proofs.climb.stair_close.Tie as tie
 use Rattle.baryon.proofs.climb.stair_close.Reads as reads
@@ -5,7 +7,8 @@ use Rattle.baryon.proofs.climb.stair_close.Lts as lts
 
 -- src/climb.rt:60:9
 returns : tie.Need-returns
-returns c = ?
+unfolding countOf
+returns c = rw (c .if1 .taken)
 
 -- src/climb.rt:55:1
 returns-2 : tie.Need-returns-2

@@ -1,3 +1,6 @@
+use mathlib.Core.Path.{_≡_, refl, ap, sym, _∙_}
+use Rattle.stairs.proofs.Best.{best-low}
+use Rattle.baryon.specs.Climb.{stairNext}
 use borrow.Author.Needs.{needs}
 use Rattle.baryon.proofs.climb.stair_next.Statement.{statement}
 use Rattle.baryon.proofs.climb.stair_next.Tie as tie
@@ -13,15 +16,16 @@ best-axis-requires c κs = search needs
 
 -- src/climb.rt:45:9
 moved-requires : tie.Need-moved-requires
-moved-requires c κs = ?
+moved-requires c κs = (c .before .pre, rw (c .best-axis .ensures) (best-low _ _))
 
 -- src/climb.rt:46:9
 step-along-requires : tie.Need-step-along-requires
-step-along-requires c κs = ?
+step-along-requires c κs = rw (c .before .best-axis .ensures) (best-low _ _)
 
 -- src/climb.rt:39:1
 returns : tie.Need-returns
-returns c = ?
+unfolding stairNext
+returns c = rw (c .step-along .ensures, c .before .moved .ensures, c .before .before .best-axis .ensures)
 
 pub stair-next-spec : {M : Type 1} → statement M
 stair-next-spec =

@@ -1,3 +1,6 @@
+use mathlib.Core.Path.{_≡_, refl, ap, sym, _∙_}
+use Rattle.baryon.proofs.Laws.{path-refused, path-accepted}
+use Rattle.baryon.specs.Walk.{openedOf}
 use borrow.Author.Needs.{needs}
 use Rattle.baryon.proofs.walk.path_open.Statement.{statement}
 use Rattle.baryon.proofs.walk.path_open.Tie as tie
@@ -16,11 +19,13 @@ refused-path-requires c κs = search needs
 
 -- src/walk.rt:44:9
 returns : tie.Need-returns
-returns c = ?
+unfolding openedOf
+returns c = c .refused-path .ensures ∙ path-refused _ (c .before .before .open-row .ensures .row) (c .before .if1 .taken)
 
 -- src/walk.rt:39:1
 returns-2 : tie.Need-returns-2
-returns-2 c = ?
+unfolding openedOf
+returns-2 c = path-accepted _ (sym (c .before .open-row .ensures .row) ∙ c .if1 .left)
 
 pub path-open-spec : {M : Type 1} → statement M
 path-open-spec = tie.close (tie.spec open-row-requires refused-path-requires returns returns-2)

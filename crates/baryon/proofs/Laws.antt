@@ -1,0 +1,46 @@
+-- When a situation holds and when not; what a refused and an accepted path answer.
+use Prim.Native.Nat.{ℕ, _<_, _≤_}
+use mathlib.Core.Bool.{true, false}
+use mathlib.Core.List.{List}
+use mathlib.Core.Path.{_≡_, refl}
+use lib.IntN.{ℤ}
+use borrow.Author.Tests.{lt-ltb, le-ltb}
+use Rattle.rows.proofs.Laws.{if-refused, if-accepted}
+use Rattle.mat.specs.Matrix.{zeroOf}
+use Rattle.stairs.specs.Staircase.{stepsTo}
+use Rattle.paths.specs.Path.{Transporter}
+use Rattle.baryon.specs.Situations.{badCount, badTime, badStepRoom}
+use Rattle.baryon.specs.Calls.{pathAnswer}
+
+pub bad-count : {n : ℕ} → 96 < n → badCount n ≡ true
+unfolding badCount
+bad-count h = rw (lt-ltb _ _ h)
+
+pub good-count : {n : ℕ} → n ≤ 96 → badCount n ≡ false
+unfolding badCount
+good-count h = rw (le-ltb _ _ h)
+
+pub bad-time : {t : ℕ} → 64 < t → badTime t ≡ true
+unfolding badTime
+bad-time h = rw (lt-ltb _ _ h)
+
+pub good-time : {t : ℕ} → t ≤ 64 → badTime t ≡ false
+unfolding badTime
+good-time h = rw (le-ltb _ _ h)
+
+module _ (o : List ℤ) where
+  pub bad-step-room : {room : ℕ} → room < stepsTo o → badStepRoom o room ≡ true
+  unfolding badStepRoom
+  bad-step-room h = rw (lt-ltb _ _ h)
+
+  pub good-step-room : {room : ℕ} → stepsTo o ≤ room → badStepRoom o room ≡ false
+  unfolding badStepRoom
+  good-step-room h = rw (le-ltb _ _ h)
+
+pub path-refused : {r row : ℕ} (w : Transporter) → r ≡ row → (r ≡ 0 → ⊥) → record { refusal = r; matrix = zeroOf; site = 0 } ≡ pathAnswer row w
+unfolding pathAnswer
+path-refused {r} {row} w same ne = rw (← same, if-refused (w .u) zeroOf r ne, if-refused (w .site) 0 r ne)
+
+pub path-accepted : {row : ℕ} (w : Transporter) → row ≡ 0 → record { refusal = 0; matrix = w .u; site = w .site } ≡ pathAnswer row w
+unfolding pathAnswer
+path-accepted w e = rw (e, if-accepted (w .u) zeroOf refl, if-accepted (w .site) 0 refl)
