@@ -8,11 +8,12 @@ use std::path::{Path, PathBuf};
 const RUST: &str = "JAMJUNE_RUST";
 
 /// The reference files in use, and what is appended to a file's copy to reach what it keeps private.
-const MODULES: [(&str, &str); 4] = [
+const MODULES: [(&str, &str); 5] = [
     ("rng", include_str!("access/rng.rs")),
     ("mat", ""),
     ("lattice", include_str!("access/lattice.rs")),
     ("fields", ""),
+    ("baryon", include_str!("access/baryon.rs")),
 ];
 
 fn main() {

@@ -1,13 +1,17 @@
-//! The calls of the lattice, of the sweep and of the fields, on both sides: what the library answers,
-//! and what the document and the reference say.
+//! The calls of the lattice, of the sweep, of the fields and of the baryon, on both sides: what the
+//! library answers, and what the document and the reference say.
 
+mod baryon;
 mod fields;
+mod flux;
 mod sweep;
 
+pub use baryon::{BARYON_LOOP, PATH, STAIRCASE, TIME_LINE, bytes};
 pub use fields::{
     ACTION_DENSITY, CLOVER_LEAVES, ELECTRIC_SQ, FIELD_STRENGTH_AT, STOUT_LINK, STOUT_STEP,
     TOPOLOGICAL_CHARGE_DENSITY, action_density, plane_densities, smeared, sum,
 };
+pub use flux::{ADD, Added, CORRELATION, MEAN_LOOP, NEW, correlation};
 pub use sweep::{FINISHED, FRAME_OVERRELAX, OPEN_OVERRELAX, OVERRELAX_LINK};
 
 use crate::face;
@@ -31,7 +35,7 @@ pub struct Call {
     rust: fn(&Arguments, &Su3Lattice) -> Words,
     /// What it is handed and hands back after its other numbers: refused, as it was.
     keeps: Option<fn(&Arguments) -> Words>,
-    /// What it then does to the lists.
+    /// What it then does to the lists, and where row 10 refuses it to a scratch.
     pub writes: Option<fn(&Arguments, &Su3Lattice, &mut Lists)>,
 }
 
@@ -186,7 +190,7 @@ pub const LINK_CHECK: Call = Call {
     }),
 };
 
-pub const CALLS: [Call; 24] = [
+pub const CALLS: [Call; 32] = [
     N_SITES,
     COORDS,
     INDEX,
@@ -211,6 +215,14 @@ pub const CALLS: [Call; 24] = [
     ACTION_DENSITY,
     TOPOLOGICAL_CHARGE_DENSITY,
     ELECTRIC_SQ,
+    STAIRCASE,
+    PATH,
+    TIME_LINE,
+    BARYON_LOOP,
+    NEW,
+    ADD,
+    MEAN_LOOP,
+    CORRELATION,
 ];
 
 impl Call {
@@ -230,6 +242,12 @@ impl Call {
         let kept = self.keeps.map_or(vec![], |keeps| keeps(a));
         [refused(row, self.width), kept].concat()
     }
+
+    /// Whether it writes to lists where it answers this refusal number: a scratch is left clear where
+    /// row 10 refuses, too.
+    pub fn writes_at(&self, refusal: u64) -> bool {
+        refusal == 0 || (refusal == 10 && self.takes.contains(&Part::Scratch))
+    }
 }
 
 fn counted<const N: usize>((refusal, numbers): (u32, [usize; N])) -> Words {
@@ -241,12 +259,18 @@ fn numbers<const N: usize>((refusal, numbers): (u32, [f64; N])) -> Words {
 }
 
 /// Numbers of the reference's, which row 10 judges.
-fn judged<const N: usize>(numbers: &[f64; N]) -> Words {
+pub fn judged<const N: usize>(numbers: &[f64; N]) -> Words {
     if rows::not_finite(numbers) {
         refused(10, N)
     } else {
         answer(0, numbers.map(bits))
     }
+}
+
+/// The answer of a call that stores these numbers, which row 10 judges.
+fn stored(numbers: &[f64]) -> Words {
+    let refused = rows::not_finite(numbers);
+    answer(if refused { 10 } else { 0 }, [])
 }
 
 /// The links that have a number that is not finite or not from -1 to 1: direction times sites + site

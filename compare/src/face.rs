@@ -7,11 +7,13 @@
 
 #![allow(unsafe_code)]
 
+mod baryon;
 mod fields;
 mod lattice;
 mod mat;
 mod sweep;
 
+pub use baryon::*;
 pub use fields::*;
 pub use lattice::*;
 pub use mat::*;

@@ -77,8 +77,9 @@ fn n_sites(tally: &mut Tally, ext: Four) {
 }
 
 fn everywhere(tally: &mut Tally, ext: Four) {
-    let mut ground = Ground::bare(ext);
-    let lent = Lists::new(vec![], vec![]).lend();
+    let lists = Lists::new(vec![], vec![]);
+    let lent = lists.lend();
+    let mut ground = Ground::bare(ext, lists);
     let plain = lent.arguments(ext, 0, 0);
     ground.check(tally, &N_SITES, &plain, &lent);
     for site in 0..plain.sites() {

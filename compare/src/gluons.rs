@@ -11,6 +11,7 @@ use crate::fields::{self, KINDS};
 use crate::inputs::Source;
 use crate::lattice::SMALL;
 use crate::tally::Tally;
+pub use lists::of as densities;
 use lists::{Actions, Field};
 
 /// So many seeds on each of the small extents, for kinds that draw.

@@ -1,37 +1,17 @@
-//! What a call of the lattice, of the sweep or of the fields is tried on, and the check of its whole
-//! answer: the refusal number, the other numbers, and every number of the lists afterwards.
+//! What a call of the lattice, of the sweep, of the fields or of the baryon is tried on, and the check
+//! of its whole answer: the refusal number, the other numbers, and every number of the lists
+//! afterwards.
+
+mod lists;
+
+pub use lists::{BEFORE, Lent, Lists, UNCHANGED, changed};
 
 use crate::calls::Call;
 use crate::face::Four;
 use crate::flat;
 use crate::reference::su3::lattice::Su3Lattice;
-use crate::rows::{self, Arguments, Job};
+use crate::rows::{self, Arguments};
 use crate::tally::{Tally, Words, answer};
-use std::cell::Cell;
-
-/// Places after each list's own that no call is lent: a write past the end shows.
-const BEYOND: usize = 18;
-
-/// In every place of a second list before a call.
-const BEFORE: f64 = f64::from_bits(0x5555_5555_5555_5555);
-
-/// Of `changed`, where every place is as expected.
-pub const UNCHANGED: [u64; 3] = [0; 3];
-
-#[derive(Clone)]
-pub struct Lists {
-    pub links: Vec<f64>,
-    pub found: Vec<u32>,
-    /// What a call of the fields fills.
-    pub second: Vec<f64>,
-}
-
-/// The lists as the library has them. A call is lent the front of each.
-pub struct Lent {
-    pub links: Vec<Cell<f64>>,
-    pub found: Vec<Cell<u32>>,
-    pub second: Vec<Cell<f64>>,
-}
 
 pub struct Ground {
     /// The number of the field's kind, and its seed.
@@ -40,75 +20,6 @@ pub struct Ground {
     pub lattice: Su3Lattice,
     /// The lists before each call.
     before: Lists,
-}
-
-impl Lists {
-    /// With no second list.
-    pub fn new(mut links: Vec<f64>, mut found: Vec<u32>) -> Self {
-        links.extend([0.5; BEYOND]);
-        found.extend([7; BEYOND]);
-        Self {
-            links,
-            found,
-            second: vec![0.5; BEYOND],
-        }
-    }
-
-    /// With a second list of this length, which holds what no answer is likely to have.
-    pub fn and_second(self, length: usize) -> Self {
-        let second = vec![BEFORE; length + BEYOND];
-        Self { second, ..self }
-    }
-
-    /// Puts these numbers to the front of the second list.
-    pub fn fill(&mut self, numbers: &[f64]) {
-        self.second[..numbers.len()].copy_from_slice(numbers);
-    }
-
-    pub fn lend(&self) -> Lent {
-        Lent {
-            links: self.links.iter().copied().map(Cell::new).collect(),
-            found: self.found.iter().copied().map(Cell::new).collect(),
-            second: self.second.iter().copied().map(Cell::new).collect(),
-        }
-    }
-}
-
-impl Lent {
-    /// Arguments that are good, with this much of the first two lists and nothing of the second list
-    /// of numbers.
-    pub fn arguments(&self, ext: Four, links: usize, room: usize) -> Arguments<'_> {
-        Arguments {
-            ext,
-            coupling: 6.0,
-            seed: 0,
-            links: &self.links[..links],
-            site: 0,
-            at: [0; 4],
-            mu: 0,
-            nu: 1,
-            parity: 0,
-            pass: 0,
-            job: Job::default(),
-            size: 1,
-            found: &self.found[..room],
-            rho: 0.1,
-            axis: 0,
-            second: &[],
-        }
-    }
-
-    fn set(&self, lists: &Lists) {
-        for (place, &x) in self.links.iter().zip(&lists.links) {
-            place.set(x);
-        }
-        for (place, &x) in self.found.iter().zip(&lists.found) {
-            place.set(x);
-        }
-        for (place, &x) in self.second.iter().zip(&lists.second) {
-            place.set(x);
-        }
-    }
 }
 
 impl Ground {
@@ -122,12 +33,12 @@ impl Ground {
         }
     }
 
-    /// For calls that take no lists.
-    pub fn bare(ext: Four) -> Self {
+    /// For calls that take no links.
+    pub fn bare(ext: Four, before: Lists) -> Self {
         Self {
             label: [0; 2],
             lattice: Su3Lattice::cold(ext, 0.0, 0),
-            before: Lists::new(vec![], vec![]),
+            before,
         }
     }
 
@@ -139,11 +50,14 @@ impl Ground {
 
     /// The same by an answer that is known.
     pub fn hold(&self, tally: &mut Tally, call: &Call, a: &Arguments, lent: &Lent, rust: Words) {
-        let written = call.writes.filter(|_| rust[0] == 0).map(|write| {
-            let mut lists = self.before.clone();
-            write(a, &self.lattice, &mut lists);
-            lists
-        });
+        let written = call
+            .writes
+            .filter(|_| call.writes_at(rust[0]))
+            .map(|write| {
+                let mut lists = self.before.clone();
+                write(a, &self.lattice, &mut lists);
+                lists
+            });
         self.settle(tally, call, a, lent, rust, written);
     }
 
@@ -194,7 +108,7 @@ impl Ground {
     }
 
     /// In the order in which they are named here, the coordinates after the site, a whole job before
-    /// the frame's size.
+    /// the frame's size, an accumulator last.
     pub fn inputs(&self, a: &Arguments) -> Words {
         let [links, site, mu, nu, room] =
             [a.links.len(), a.site, a.mu, a.nu, a.found.len()].map(word);
@@ -203,7 +117,9 @@ impl Ground {
         let others = [mu, nu, room, word(a.parity), a.pass];
         let job = a.job.over(a.ext);
         let fields = [a.rho.to_bits(), word(a.axis), word(a.second.len())];
-        let parts: [&[u64]; 8] = [
+        let lists = [a.steps.len(), a.grid.len(), a.scratch.len()].map(word);
+        let flux = a.flux.arrays();
+        let parts: [&[u64]; 13] = [
             &self.label,
             &ext,
             &numbers,
@@ -212,6 +128,11 @@ impl Ground {
             &job,
             &[word(a.size)],
             &fields,
+            &[a.count.into(), a.number.into()],
+            &lists,
+            &flux.counts,
+            &flux.offsets.map(|c| c as u64),
+            &flux.sums.map(f64::to_bits),
         ];
         parts.concat()
     }
@@ -219,20 +140,4 @@ impl Ground {
 
 fn word(n: usize) -> u64 {
     n as u64
-}
-
-/// How many places of the three lists are not as expected, NaNs told apart too.
-pub fn changed(lent: &Lent, expected: &Lists) -> [u64; 3] {
-    let found = lent.found.iter().zip(&expected.found);
-    [
-        changed_numbers(&lent.links, &expected.links),
-        found.map(|(a, &b)| u64::from(a.get() != b)).sum(),
-        changed_numbers(&lent.second, &expected.second),
-    ]
-}
-
-fn changed_numbers(lent: &[Cell<f64>], expected: &[f64]) -> u64 {
-    let pairs = lent.iter().zip(expected);
-    let differ = |(a, b): (&Cell<f64>, &f64)| u64::from(a.get().to_bits() != b.to_bits());
-    pairs.map(differ).sum()
 }

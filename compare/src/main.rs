@@ -6,6 +6,7 @@
 
 #![deny(unsafe_code)]
 
+mod baryon;
 mod calls;
 mod face;
 mod fields;
@@ -36,7 +37,7 @@ use tally::Tally;
 /// A group of calls: its name, and what compares all its calls.
 type Group = (&'static str, fn(&mut Tally));
 
-const GROUPS: [Group; 10] = [
+const GROUPS: [Group; 11] = [
     ("words", words::compare),
     ("root", root::compare),
     ("generator", generator::compare),
@@ -45,6 +46,7 @@ const GROUPS: [Group; 10] = [
     ("lattice", lattice::compare),
     ("sweep", sweep::compare),
     ("fields", gluons::compare),
+    ("baryon", baryon::compare),
     ("refusals", refusals::compare),
     ("replay", replay::compare),
 ];

@@ -1,11 +1,15 @@
 //! Every row of the table that these calls have: its example, and then all arguments, good and bad,
-//! with each other, so that each row is also met with others that hold.
+//! with each other, so that each row is also met with others that hold. A call that takes an
+//! accumulator has too many arguments for that: of its parts every two are crossed.
+
+mod baryon;
+mod situations;
 
 use crate::calls::{CALLS, Call, OVERRELAX_LINK};
 use crate::face::Four;
 use crate::fields::{self, KINDS};
-use crate::ground::{Ground, Lent, Lists};
-use crate::rows::{self, Arguments, Job, Part};
+use crate::ground::{BEFORE, Ground, Lent, Lists};
+use crate::rows::{Arguments, Job, Part};
 use crate::tally::Tally;
 
 /// The two extents that are good here; the list of links is as long as the second ones want.
@@ -132,7 +136,7 @@ const EXAMPLES: [Example; 18] = [
 ];
 
 /// The calls that row 10 can refuse: those that answer or store numbers of the links.
-const ANSWER_NUMBERS: [&str; 12] = [
+const ANSWER_NUMBERS: [&str; 16] = [
     "jj_plaquette",
     "jj_staple",
     "jj_average_plaquette",
@@ -145,6 +149,10 @@ const ANSWER_NUMBERS: [&str; 12] = [
     "jj_action_density",
     "jj_topological_charge_density",
     "jj_electric_sq",
+    "jj_path",
+    "jj_time_line",
+    "jj_baryon_loop",
+    "jj_add",
 ];
 
 pub fn compare(tally: &mut Tally) {
@@ -152,6 +160,7 @@ pub fn compare(tally: &mut Tally) {
         let mut bench = Bench::new(name);
         for call in &CALLS {
             bench.examples(tally, call);
+            situations::compare(tally, &bench.grounds[0], call, &bench.lent);
             bench.crossed(tally, call);
         }
     }
@@ -168,7 +177,9 @@ impl Bench {
     fn new(kind: &'static str) -> Self {
         let number = fields::number_of(kind);
         let links = fields::links(&KINDS[number], GOOD[1], 1);
-        let lists = Lists::new(links, vec![u32::MAX; FOUND]).and_second(SECOND);
+        let lists = Lists::new(links, vec![u32::MAX; FOUND])
+            .and_steps(baryon::steps())
+            .and_flux(vec![BEFORE; SECOND], vec![BEFORE; baryon::GRID]);
         let label = [number as u64, 1];
         Self {
             kind,
@@ -196,11 +207,23 @@ impl Bench {
         }
     }
 
-    /// Everything that the call takes with everything else.
+    /// Everything that the call takes with everything else, or every two.
     fn crossed(&mut self, tally: &mut Tally, call: &Call) {
+        if call.takes.contains(&Part::Sums) {
+            for (number, &part) in call.takes.iter().enumerate() {
+                for &other in &call.takes[..number] {
+                    self.each(tally, call, &[part, other]);
+                }
+            }
+        } else {
+            self.each(tally, call, call.takes);
+        }
+    }
+
+    /// All choices for these parts.
+    fn each(&mut self, tally: &mut Tally, call: &Call, parts: &[Part]) {
         let lent = &self.lent;
-        let good = good(call, lent);
-        let all = call.takes.iter().fold(vec![good], |all, &part| {
+        let all = parts.iter().fold(vec![good(call, lent)], |all, &part| {
             all.iter().flat_map(|a| variants(part, a, lent)).collect()
         });
         for a in all {
@@ -212,11 +235,8 @@ impl Bench {
 
 /// Arguments that are good under the first extents.
 fn good<'a>(call: &Call, lent: &'a Lent) -> Arguments<'a> {
-    let second = rows::second(call.takes).map_or(0, |each| 16 * each);
-    Arguments {
-        second: &lent.second[..second],
-        ..lent.arguments(GOOD[0], 1152, 64)
-    }
+    let a = baryon::two_densities(lent.arguments(GOOD[0], 1152, 64));
+    baryon::fitted(a, call, lent)
 }
 
 /// The arguments with each choice for one part.
@@ -250,6 +270,7 @@ fn variants<'a>(part: Part, a: &Arguments<'a>, lent: &'a Lent) -> Vec<Arguments<
             second: &lent.second[..n],
             ..*a
         }),
+        _ => baryon::variants(part, a, lent),
     }
 }
 
@@ -261,12 +282,16 @@ fn of<'a, T, const N: usize>(
 }
 
 fn extents() -> impl Iterator<Item = Four> {
-    let spoilt = (0..4).flat_map(|place| {
+    GOOD.into_iter().chain(spoilt(GOOD[0])).chain(BAD)
+}
+
+/// With each bad side in each place.
+fn spoilt<const N: usize>(good: [usize; N]) -> impl Iterator<Item = [usize; N]> {
+    (0..N).flat_map(move |place| {
         BAD_SIDES.map(|side| {
-            let mut ext = GOOD[0];
+            let mut ext = good;
             ext[place] = side;
             ext
         })
-    });
-    GOOD.into_iter().chain(spoilt).chain(BAD)
+    })
 }

@@ -1,11 +1,15 @@
-//! The document's table of refusals, for the calls of matrices, lattice, sweep and fields: from what a
-//! call is handed to the number of the first row that holds.
+//! The document's table of refusals, for the calls of matrices, lattice, sweep, fields and baryon: from
+//! what a call is handed to the number of the first row that holds.
 
-use crate::face::{self, Four};
+mod flux;
+
+pub use flux::Flux;
+
+use crate::face::{self, Four, Offset};
 use std::cell::Cell;
 
-/// What a call of the lattice, of the sweep or of the fields can be handed. A job's extents are
-/// `Extents`.
+/// What a call of the lattice, of the sweep, of the fields or of the baryon can be handed. A job's
+/// extents are `Extents`.
 #[derive(Clone, Copy, PartialEq)]
 pub enum Part {
     Extents,
@@ -30,6 +34,35 @@ pub enum Part {
     Smeared,
     /// The second list, for one number of each site.
     Density,
+    /// The first quark's.
+    Offset,
+    Offsets,
+    /// Of lines in time.
+    Length,
+    /// The list of steps, to be walked.
+    Steps,
+    /// The list of steps, to be written.
+    Stairs,
+    /// The extents of an accumulator's grid.
+    Cells,
+    /// How many densities the call has.
+    Count,
+    /// How many the accumulator has.
+    Held,
+    /// The second list, with the call's densities.
+    Densities,
+    Grid,
+    Scratch,
+    /// Of an accumulator that is added to.
+    Samples,
+    /// The samples of an accumulator that is asked for its means.
+    Asked,
+    /// Of an accumulator.
+    Sums,
+    /// Of a density.
+    Number,
+    /// The second list, for one number of each cell.
+    Correlation,
 }
 
 /// A job but for its extents.
@@ -77,6 +110,12 @@ pub struct Arguments<'a> {
     pub rho: f64,
     pub axis: usize,
     pub second: &'a [Cell<f64>],
+    pub steps: &'a [Cell<u8>],
+    pub flux: Flux,
+    pub count: u32,
+    pub number: u32,
+    pub grid: &'a [Cell<f64>],
+    pub scratch: &'a [Cell<f64>],
 }
 
 impl Arguments<'_> {
@@ -84,12 +123,18 @@ impl Arguments<'_> {
     pub fn sites(&self) -> usize {
         self.ext.iter().product()
     }
+
+    /// The first quark's.
+    pub fn offset(&self) -> Offset {
+        let [x, y, z, ..] = self.flux.offsets;
+        [x, y, z]
+    }
 }
 
 type Row = fn(&[Part], &Arguments) -> bool;
 
 /// In the order in which they are tried. Rows 9 and 10, on the answer, come after all of them.
-const ROWS: [(u32, Row); 9] = [
+const ROWS: [(u32, Row); 12] = [
     (1, extents),
     (2, coupling),
     (3, lengths),
@@ -98,7 +143,10 @@ const ROWS: [(u32, Row); 9] = [
     (6, parities),
     (7, passes),
     (8, jobs),
+    (11, flux::paths),
     (12, rooms),
+    (13, flux::densities),
+    (14, flux::means),
 ];
 
 /// 0 where a call that takes these parts is accepted as far as its arguments go.
@@ -119,8 +167,9 @@ pub fn not_finite(numbers: &[f64]) -> bool {
 
 /// An extent odd, below 2 or above 16.
 fn extents(parts: &[Part], a: &Arguments) -> bool {
-    let bad = |n: usize| n % 2 == 1 || !(2..=16).contains(&n);
-    parts.contains(&Part::Extents) && a.ext.into_iter().any(bad)
+    let bad = |n: u64| n % 2 == 1 || !(2..=16).contains(&n);
+    let field = parts.contains(&Part::Extents) && a.ext.into_iter().any(|n| bad(n as u64));
+    field || (parts.contains(&Part::Cells) && a.flux.n.into_iter().any(bad))
 }
 
 /// Not finite, below 0 or above 100; -0 is not below 0.
@@ -129,13 +178,15 @@ fn coupling(parts: &[Part], a: &Arguments) -> bool {
     parts.contains(&Part::Coupling) && !good
 }
 
-/// A list of links that has not 72 numbers for each site, or a second list of wrong length.
+/// A list of links that has not 72 numbers for each site, or another list of wrong length.
 fn lengths(parts: &[Part], a: &Arguments) -> bool {
     let links = parts.contains(&Part::Links) && a.links.len() != 72 * a.sites();
-    links || second(parts).is_some_and(|each| a.second.len() != each * a.sites())
+    let second = second(parts).is_some_and(|each| a.second.len() != each * a.sites());
+    links || second || flux::lengths(parts, a)
 }
 
-/// How many numbers for each site the second list has, where a call that takes these parts has one.
+/// How many numbers for each site the second list has, where a call that takes these parts fills one
+/// so.
 pub fn second(parts: &[Part]) -> Option<usize> {
     parts.iter().find_map(|part| match part {
         Part::Smeared => Some(72),
@@ -176,7 +227,9 @@ fn jobs(parts: &[Part], a: &Arguments) -> bool {
     parts.contains(&Part::Job) && (counts() || job.direction > 3 || job.parity > 1)
 }
 
-/// Room for unsound links below four times the sites.
+/// Room for unsound links below four times the sites, or for steps below the steps needed.
 fn rooms(parts: &[Part], a: &Arguments) -> bool {
-    parts.contains(&Part::Room) && a.found.len() < 4 * a.sites()
+    let unsound = parts.contains(&Part::Room) && a.found.len() < 4 * a.sites();
+    let steps = || a.offset().iter().map(|c| c.unsigned_abs() as usize).sum();
+    unsound || (parts.contains(&Part::Stairs) && a.steps.len() < steps())
 }

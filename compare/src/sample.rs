@@ -45,9 +45,10 @@
 //! numbers are +0; 1, number p is NaN; 2, +infinity; 3, 1e200; 4, 2^-1074; 5, all are multiplied by
 //! 1e-13; 6, number p is -0; 7, all are multiplied by 1e160.
 //!
-//! The overrelaxation comes after these, and smearing, clover and densities come last: their files
-//! have their lines.
+//! The overrelaxation comes after these, then smearing, clover and densities, and last staircases,
+//! paths, loops and accumulators: their files have their lines.
 
+mod baryon;
 mod fields;
 mod hash;
 mod sweep;
@@ -91,7 +92,8 @@ fn all(to: &mut String) -> std::fmt::Result {
         }
     }
     sweep::lines(to)?;
-    fields::lines(to)
+    fields::lines(to)?;
+    baryon::lines(to)
 }
 
 fn arithmetic(to: &mut String) -> std::fmt::Result {

@@ -7,6 +7,7 @@
 //! A row of two or three nanoseconds moves by a few cycles with the addresses that code comes to
 //! stand at: its ratio says something only where it stays the same from build to build.
 
+mod baryon;
 mod fields;
 mod lattice;
 mod mat;
@@ -60,6 +61,7 @@ pub fn print() {
         .chain(lattice::rows())
         .chain(sweep::rows())
         .chain(fields::rows())
+        .chain(baryon::rows())
     {
         println!("{row}");
     }

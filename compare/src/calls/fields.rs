@@ -1,13 +1,13 @@
 //! Smearing, the field strength and the densities.
 
-use super::{Call, judged, numbers};
+use super::{Call, judged, numbers, stored};
 use crate::face;
 use crate::flat;
 use crate::reference::su3::fields::FieldStrength;
 use crate::reference::su3::lattice::Su3Lattice;
+use crate::rows::Arguments;
 use crate::rows::Part::{Axis, Density, Direction, Extents, Links, Other, Rho, Site, Smeared};
-use crate::rows::{self, Arguments};
-use crate::tally::{Words, answer};
+use crate::tally::answer;
 
 pub const STOUT_LINK: Call = Call {
     name: "jj_stout_link",
@@ -123,10 +123,4 @@ fn electric_sq(a: &Arguments, lattice: &Su3Lattice) -> Vec<f64> {
 fn strength_at(lattice: &Su3Lattice, site: usize) -> face::Planes {
     let planes = lattice.field_strength_at(site).map(|f| flat::numbers(&f));
     std::array::from_fn(|k| planes[k / 18][k % 18])
-}
-
-/// The answer of a call that stores these numbers, which row 10 judges.
-fn stored(numbers: &[f64]) -> Words {
-    let refused = rows::not_finite(numbers);
-    answer(if refused { 10 } else { 0 }, [])
 }

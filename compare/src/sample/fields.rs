@@ -1,4 +1,4 @@
-//! The lines of smearing, clover and densities, which are the last. For extents 2 6 4 2 and each kind,
+//! The lines of smearing, clover and densities, after those. For extents 2 6 4 2 and each kind,
 //! in the order above, with the field that is made above:
 //!
 //!     fields KIND

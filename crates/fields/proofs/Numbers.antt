@@ -25,7 +25,7 @@ use Rattle.links.specs.Store.{matrixAt, withMatrix}
 use Rattle.links.proofs.Laws.{link-same, link-other, number-below}
 use Rattle.gauge.specs.Field.{Holds, Link, partOf, listOf}
 use Rattle.gauge.proofs.Lists.{length-list, number-at, list-holds}
-use Rattle.fields.specs.Situations.{finiteNumbers}
+use Rattle.rows.specs.Finite.{finiteNumbers}
 
 -- two tests that imply each other
 same-test : (a b : Bool) → (a ≡ true → b ≡ true) → (b ≡ true → a ≡ true) → a ≡ b
@@ -43,11 +43,6 @@ module _ (f : ℕ → Float) where
       (same-test _ _
       (λ h. each-all _ n (λ k g. ap finite (listed-at f nan n k g) ∙ all-each (λ k. finite (f k)) n k g h))
       (λ h. each-all _ n (λ k g. ap finite (sym (listed-at f nan n k g)) ∙ all-each (λ k. finite (getD (map f (range n)) k nan)) n k g h)))
-
-  pub fill-listed : (l : List Float) (n : ℕ) → length l ≡ n → fill f l n ≡ map f (range n)
-  fill-listed l n long =
-      ext-getD nan (fill f l n) (map f (range n)) (length-fill f l n ∙ long ∙ sym (length-listed f n))
-      (λ k h. let g : k < n = omega (arith, length-fill f l n) in fill-at f l nan n k g (omega arith) ∙ sym (listed-at f nan n k g))
 
 -- ## one matrix for each link
 

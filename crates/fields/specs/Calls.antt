@@ -21,7 +21,8 @@ use Rattle.strength.specs.Densities.{densityOf}
 use Rattle.stout.specs.Stout.{stoutOf}
 use Rattle.fields.specs.declared.StrengthAnswer.{StrengthAnswer}
 use Rattle.fields.specs.declared.ListAnswer.{ListAnswer}
-use Rattle.fields.specs.Situations.{badNumbers, badSix, stoutRows, smearRows, densityRows}
+use Rattle.rows.specs.Finite.{badNumbers}
+use Rattle.fields.specs.Situations.{badSix, stoutRows, smearRows, densityRows}
 
 -- ## Matrices
 

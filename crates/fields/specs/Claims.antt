@@ -12,7 +12,7 @@ use Rattle.strength.specs.declared.Density.{Density}
 use Rattle.strength.specs.Densities.{InSpace, densityOf}
 use Rattle.stout.specs.Stout.{stoutOf}
 use Rattle.fields.specs.declared.ListAnswer.{ListAnswer}
-use Rattle.fields.specs.Situations.{finiteNumbers}
+use Rattle.rows.specs.Finite.{finiteNumbers}
 use Rattle.fields.specs.Calls.{densityList, SmearCall, DensityCall}
 
 -- a field whose numbers are from −2 to 2 has finite densities

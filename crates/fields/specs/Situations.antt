@@ -4,9 +4,6 @@ use Prim.Native.Nat.{ℕ}
 use mathlib.Core.Bool.{Bool, false, not}
 use mathlib.Core.List.{List, [], _∷_}
 use lib.Dec.{ltb, eqb}
-use lib.Ieee.{Float, nan}
-use lib.Ieee.Scale.{finite}
-use lib.ListN.{length, getD}
 use Rattle.loops.specs.Loops.{allBelow}
 use Rattle.mat.specs.declared.Su3.{Su3}
 use Rattle.mat.specs.Matrix.{finiteMatrix, nthMatrix}
@@ -26,13 +23,6 @@ unfoldable pub badAxis : Density → Bool
 badAxis Density.Action = false
 badAxis Density.Charge = false
 badAxis (Density.Electric axis) = ltb 2 axis
-
--- 10: a number of a list isn't finite
-unfoldable pub finiteNumbers : List Float → Bool
-finiteNumbers l = allBelow (λ k. finite (getD l k nan)) (length l)
-
-unfoldable pub badNumbers : List Float → Bool
-badNumbers l = not (finiteNumbers l)
 
 -- 10: a number of six matrices isn't finite
 unfoldable pub finiteSix : List Su3 → Bool

@@ -7,7 +7,7 @@ ghost use Rattle.geometry.specs.Radix.{volume};
 ghost use Rattle.gauge.specs.Field.{Holds};
 ghost use Rattle.strength.specs.declared.Density.{Density};
 ghost use Rattle.strength.specs.Densities.{InSpace};
-ghost use Rattle.fields.specs.Situations.{finiteNumbers};
+ghost use Rattle.rows.specs.Finite.{finiteNumbers};
 ghost use Rattle.fields.specs.Calls.{densityList, DensityCall};
 
 // Whether a density is finite at every site, by working it out.

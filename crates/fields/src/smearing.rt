@@ -8,7 +8,7 @@ ghost use Prim.Native.Nat.{_*_};
 ghost use lib.ListN.{length};
 ghost use Rattle.geometry.specs.Radix.{volume};
 ghost use Rattle.gauge.specs.Field.{Holds};
-ghost use Rattle.fields.specs.Situations.{finiteNumbers};
+ghost use Rattle.rows.specs.Finite.{finiteNumbers};
 ghost use Rattle.fields.specs.Calls.{stoutCall, smearedList, SmearCall};
 
 // How many terms of the exponential's series are summed.

@@ -50,5 +50,9 @@ module _ {A : Type 0} (f : ℕ → A) where
   drop-fill l zero k h = refl
   drop-fill l (suc n) k h = drop-set-lt k (fill f l n) n (f n) (omega arith) ∙ drop-fill l n k (omega arith)
 
+  -- all of them
+  pub fill-listed : (l : List A) (n : ℕ) → length l ≡ n → fill f l n ≡ map f (range n)
+  fill-listed l n long = sym (take-all n (fill f l n) (rw (length-fill f l n) (omega arith))) ∙ take-fill l n (omega arith)
+
   pub fill-front : (l : List A) (n : ℕ) → n ≤ length l → fill f l n ≡ map f (range n) ++ drop n l
   fill-front l n h = sym (take-append-drop n (fill f l n)) ∙ rw (take-fill l n h, drop-fill l n n (omega arith))

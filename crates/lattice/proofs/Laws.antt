@@ -12,7 +12,7 @@ use Rattle.complex.specs.declared.C64.{C64}
 use Rattle.mat.specs.declared.Su3.{Su3}
 use Rattle.geometry.specs.Radix.{volume, Within}
 use Rattle.geometry.specs.Shape.{fitsOf}
-use Rattle.rows.proofs.Laws.{if-refused}
+use Rattle.rows.proofs.Laws.{or-false, if-refused}
 use Rattle.complex.specs.Rounded.{fzero}
 use Rattle.complex.specs.Complex.{czero}
 use Rattle.mat.specs.Matrix.{zeroOf}
@@ -62,10 +62,6 @@ unfolding badDirection
 good-direction h = rw (le-ltb _ _ h)
 
 -- ## what a passed test says
-
-pub or-false : (a b : Bool) → a || b ≡ false → (a ≡ false) × (b ≡ false)
-or-false false b h = (refl, h)
-or-false true b h = (h, absurd (true≢false h))
 
 pub plane-axes : (mu nu : ℕ) → badPlane mu nu ≡ false → (mu < 4) × (nu < 4) × (nu ≡ mu → ⊥)
 unfolding badPlane

@@ -1,6 +1,6 @@
 -- Rows met and rows passed; what judges and answers say.
 use Prim.Native.Nat.{ℕ, zero, suc, _<_}
-use mathlib.Core.Bool.{Bool, true, false, cond, _&&_, and-eq-true-iff}
+use mathlib.Core.Bool.{Bool, true, false, cond, _&&_, _||_, and-eq-true-iff, true≢false}
 use mathlib.Core.List.{List, [], _∷_, _++_}
 use mathlib.Core.Path.{_≡_, refl, sym, _∙_}
 use native.Mathlib.Omega.{arith}
@@ -11,6 +11,12 @@ use Rattle.rows.specs.declared.Number.{Number}
 use Rattle.rows.specs.declared.Count.{Count}
 use Rattle.rows.specs.Rows.{firstRow, ifAccepted, finally, Judged}
 use Rattle.rows.specs.Answers.{numberRefusal, numberValue, numberOf, IsNumber, countRefusal, countValue, countOf, IsCount}
+
+-- ## two situations, neither of which holds
+
+pub or-false : (a b : Bool) → a || b ≡ false → (a ≡ false) × (b ≡ false)
+or-false false b h = (refl, h)
+or-false true b h = (h, absurd (true≢false h))
 
 -- ## the first row
 

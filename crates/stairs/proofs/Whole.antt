@@ -10,6 +10,7 @@ use lib.Signed.{ltZ, nonNeg}
 use mir.Syntax.{w32}
 use mir.Val.{Fits, SFits}
 use borrow.Author.Tests.{ltb-true, ltb-false}
+use Rattle.rows.proofs.Laws.{or-false}
 use Rattle.stairs.specs.Line.{alongOf, signum}
 use Rattle.stairs.specs.Offsets.{badOffset, badOffsets}
 
@@ -94,10 +95,6 @@ pub neg-reach : (z : ℤ) → ltZ z (pos 0) ≡ true → natAbs (negℤ z) ≡ n
 neg-reach z g = neg-near z
 
 -- ## an offset's three numbers
-
-or-false : (a b : Bool) → a || b ≡ false → (a ≡ false) × (b ≡ false)
-or-false true b h = never (sym h)
-or-false false b h = (refl, h)
 
 pub each-offset : (d : List ℤ) (a : ℕ) → a < 3 → badOffsets d ≡ false → badOffset (alongOf d a) ≡ false
 unfolding badOffsets

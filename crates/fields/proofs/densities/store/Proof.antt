@@ -10,7 +10,7 @@ use Rattle.geometry.proofs.Shape.{volume-pos}
 use Rattle.gauge.specs.Field.{linkOf}
 use Rattle.strength.specs.Densities.{densityOf}
 use Rattle.fields.specs.Calls.{densityList}
-use Rattle.fields.proofs.Numbers.{fill-listed}
+use Rattle.geometry.proofs.Range.{fill-listed}
 use Rattle.fields.proofs.densities.store.Statement.{statement}
 use Rattle.fields.proofs.densities.store.Tie as tie
 
