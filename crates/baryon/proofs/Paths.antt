@@ -9,23 +9,25 @@ use lib.Dec.{ltb}
 use lib.ListN.{length}
 use lib.Ieee.{Float}
 use Rattle.rows.specs.Rows.{firstRow, ifAccepted, finally}
-use Rattle.rows.proofs.Laws.{row-passed, rows-refuse, rows-pass, if-refused, if-accepted}
+use Rattle.rows.proofs.Laws.{row-passed, rows-refuse, rows-pass, if-refused, if-accepted, last-row}
 use Rattle.mat.specs.declared.Su3.{Su3}
 use Rattle.mat.specs.Matrix.{identityOf, zeroOf}
 use Rattle.mat.specs.Product.{mulOf, mulDagOf}
 use Rattle.geometry.specs.Radix.{volume}
 use Rattle.geometry.specs.Shape.{Shape}
-use Rattle.geometry.specs.Steps.{fwdOf, bwdOf}
+use Rattle.geometry.specs.declared.Spot.{Spot}
+use Rattle.geometry.specs.Steps.{fwdOf, bwdOf, spotOf}
 use Rattle.geometry.proofs.Shape.{fits-shape}
 use Rattle.links.specs.Field.{Field}
 use Rattle.gauge.specs.Field.{linkOf, Holds}
 use Rattle.lattice.specs.Situations.{badExtents, badLinks, badSite, badMatrix}
 use Rattle.stairs.specs.declared.Step.{Step}
-use Rattle.paths.specs.Path.{Transporter, stepOf, stepsFrom, pathOf}
-use Rattle.paths.proofs.Walks.{step-below}
+use Rattle.paths.specs.declared.Walked.{Walked}
+use Rattle.paths.specs.Path.{Transporter, stepOf, stepsFrom, pathOf, lineOf, walkedOf}
+use Rattle.paths.proofs.Walks.{spot-site, step-below}
 use Rattle.baryon.specs.declared.PathAnswer.{PathAnswer}
-use Rattle.baryon.specs.Situations.{badCount, badAxes, openRows, pathRows}
-use Rattle.baryon.specs.Calls.{pathAnswer, pathCall}
+use Rattle.baryon.specs.Situations.{badAxes, openRows, lineRows}
+use Rattle.baryon.specs.Calls.{pathAnswer, pathCall, lineCall}
 use Rattle.baryon.specs.Walk.{Walkable, transporterOf, openedOf, steppedOf, closedOf, walkedBy}
 
 abbrev refusedBy : ℕ → PathAnswer
@@ -146,3 +148,14 @@ module _ (d : List ℕ) (l : List Float) where
     pub path-answered : (r : PathAnswer) → r ≡ closedOf (walkedBy d l (openedOf d n (length l) (length steps)) steps) → r ≡ pathCall d n l steps
     unfolding pathCall openedOf
     path-answered r p = p ∙ goes (firstRow open-rows) refl
+
+-- ## along time
+
+pub line-answered : (d : List ℕ) (n t : ℕ) (l : List Float) {row : ℕ} → row ≡ firstRow (lineRows d (length l) n t) → row ≡ 0 → {p : Spot} → p ≡ spotOf d n
+    → {w : Walked} → w ≡ walkedOf d (lineOf d (linkOf d l) (p .site) t)
+    → {r : PathAnswer} → r ≡ pathAnswer (firstRow ((badMatrix (w .u), 10) ∷ [])) (record { u = w .u; site = w .end .site }) → r ≡ lineCall d n t l
+unfolding lineCall
+line-answered d n t l same none {p} e {w} f g =
+    let here : p .site ≡ n = ap (λ (x : Spot). x .site) e ∙ spot-site d n in
+    let end : w ≡ walkedOf d (lineOf d (linkOf d l) n t) = rw here at f in
+    rw (g, end, spot-site d (lineOf d (linkOf d l) n t .site), last-row same (badMatrix (lineOf d (linkOf d l) n t .u), 10) none)

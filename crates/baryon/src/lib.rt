@@ -6,12 +6,11 @@ mod quarks;
 mod walk;
 
 pub use climb::staircase;
+use mat::Su3;
 pub use quarks::baryon_loop;
+use stairs::Step;
 pub use walk::path;
 pub use walk::time_line;
-
-use mat::Su3;
-use stairs::Step;
 
 // A product of links and the site where it ends, and 0; or the row that refuses the call, and zeros.
 pub struct PathAnswer {

@@ -1,5 +1,5 @@
 -- Walks from spot to spot, step by step.
-use Prim.Native.Nat.{ℕ, zero, suc, _+_, _<_, _≤_}
+use Prim.Native.Nat.{ℕ, zero, suc, _+_, _*_, _<_, _≤_}
 use mathlib.Core.Bool.{Bool, true, false, cond}
 use mathlib.Core.List.{List, [], _∷_, _++_}
 use mathlib.Core.Path.{_≡_, refl, ap, sym, _∙_}
@@ -42,6 +42,12 @@ pub from-spot : (d s : List ℕ) (l : List Float) (p : Spot) → From d s l p �
 from-spot d s l p h {q} n below e =
     let same : q .site ≡ n = ap (λ (x : Spot). x .site) e ∙ spot-site d n in
     record { holds = h .holds; strides = h .strides; below = rw same below; spot = e ∙ ap (spotOf d) (sym same) }
+
+-- the spot of a site
+pub from-site : (d s : List ℕ) (l : List Float) (n : ℕ) → Shape d → length l ≡ 72 * volume d → n < volume d → s ≡ stridesOf d → {p : Spot} → p ≡ spotOf d n → From d s l p
+from-site d s l n shape long below strides {p} e =
+    let same : p .site ≡ n = ap (λ (x : Spot). x .site) e ∙ spot-site d n in
+    record { holds = record { shape = shape; long = long }; strides = strides; below = rw same below; spot = e ∙ ap (spotOf d) (sym same) }
 
 pub stored : (d s : List ℕ) (l : List Float) (p : Spot) → From d s l p → (mu v : ℕ) → mu < 4 → v ≡ volume d → Stored l v mu (p .site)
 stored d s l p h mu v axis e = rw e (record { sized = sized d l (h .holds); axis = axis; below = h .below })

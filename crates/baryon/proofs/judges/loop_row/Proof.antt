@@ -4,36 +4,18 @@ use Rattle.baryon.proofs.Laws.{bad-time, good-time}
 use borrow.Author.Needs.{needs}
 use Rattle.baryon.proofs.judges.loop_row.Statement.{statement}
 use Rattle.baryon.proofs.judges.loop_row.Tie as tie
-use Rattle.baryon.proofs.judges.loop_row.Reads as reads
-use Rattle.baryon.proofs.judges.loop_row.Lts as lts
-use Rattle.lattice.proofs.field_site_row.Reads as field-site-row-reads
-use Rattle.stairs.proofs.bad_quarks.Reads as bad-quarks-reads
 
--- src/judges.rt:55:9
-field-site-row-requires : tie.Need-field-site-row-requires
-field-site-row-requires c κs = search needs
-
--- src/judges.rt:57:9
 returns : tie.Need-returns
 returns c = first-refuses (c .before .field-site-row .ensures) _ (c .if1 .taken)
 
--- src/judges.rt:59:8
-bad-quarks-requires : tie.Need-bad-quarks-requires
-bad-quarks-requires c κs = search needs
-
--- src/judges.rt:60:9
 returns-2 : tie.Need-returns-2
 returns-2 c = refuses 10 (first-passes (c .before .before .before .field-site-row .ensures) _ refl (c .before .before .if1 .left) ∙ row-holds 11 _ (sym (c .before .bad-quarks .ensures) ∙ c .if2 .taken))
 
--- src/judges.rt:63:9
 returns-3 : tie.Need-returns-3
 returns-3 c = refuses 10 (first-passes (c .before .before .before .before .field-site-row .ensures) _ refl (c .before .before .before .if1 .left) ∙ row-passes 11 _ (sym (c .before .before .bad-quarks .ensures) ∙ c .before .if2 .left) ∙ row-holds 11 _ (bad-time (c .if3 .taken)))
 
--- src/judges.rt:52:1
 returns-4 : tie.Need-returns-4
 returns-4 c = let f = c .before .before .before .before .field-site-row .ensures .accepted (c .before .before .before .if1 .left) in accepts (first-passes (c .before .before .before .before .field-site-row .ensures) _ refl (c .before .before .before .if1 .left) ∙ row-passes 11 _ (sym (c .before .before .bad-quarks .ensures) ∙ c .before .if2 .left) ∙ row-passes 11 _ (good-time (c .if3 .left)) ∙ no-row) (f .0, f .1, f .2, sym (c .before .before .bad-quarks .ensures) ∙ c .before .if2 .left)
 
 pub loop-row-spec : {M : Type 1} → statement M
-loop-row-spec =
-    tie.close
-    (tie.spec field-site-row-requires returns bad-quarks-requires returns-2 returns-3 returns-4)
+loop-row-spec = tie.close (tie.spec (λ c κs. search needs) returns (λ c κs. search needs) returns-2 returns-3 returns-4)

@@ -4,31 +4,18 @@ use Rattle.baryon.proofs.Laws.{bad-step-room, good-step-room}
 use borrow.Author.Needs.{needs}
 use Rattle.baryon.proofs.judges.stair_row.Statement.{statement}
 use Rattle.baryon.proofs.judges.stair_row.Tie as tie
-use Rattle.baryon.proofs.judges.stair_row.Reads as reads
-use Rattle.baryon.proofs.judges.stair_row.Lts as lts
-use Rattle.stairs.proofs.bad_offsets.Reads as bad-offsets-reads
-use Rattle.stairs.proofs.steps_to.Reads as steps-to-reads
 
--- src/judges.rt:16:8
-bad-offsets-requires : tie.Need-bad-offsets-requires
-bad-offsets-requires c κs = search needs
-
--- src/judges.rt:17:9
 returns : tie.Need-returns
 returns c = refuses 10 (row-holds 11 _ (sym (c .before .bad-offsets .ensures) ∙ c .if1 .taken))
 
--- src/judges.rt:19:15
 steps-to-requires : tie.Need-steps-to-requires
 steps-to-requires c κs = sym (c .before .bad-offsets .ensures) ∙ c .if1 .left
 
--- src/judges.rt:20:9
 returns-2 : tie.Need-returns-2
 returns-2 c = refuses 11 (row-passes 11 _ (sym (c .before .before .before .bad-offsets .ensures) ∙ c .before .before .if1 .left) ∙ row-holds 12 _ (bad-step-room _ (rw (c .before .steps-to .ensures) at (c .if2 .taken))))
 
--- src/judges.rt:13:1
 returns-3 : tie.Need-returns-3
 returns-3 c = let e = sym (c .before .before .before .bad-offsets .ensures) ∙ c .before .before .if1 .left in let r = rw (c .before .steps-to .ensures) at (c .if2 .left) in accepts (row-passes 11 _ e ∙ row-passes 12 _ (good-step-room _ r) ∙ no-row) (e, r)
 
 pub stair-row-spec : {M : Type 1} → statement M
-stair-row-spec =
-    tie.close (tie.spec bad-offsets-requires returns steps-to-requires returns-2 returns-3)
+stair-row-spec = tie.close (tie.spec (λ c κs. search needs) returns steps-to-requires returns-2 returns-3)

@@ -1,82 +1,38 @@
+use mathlib.Core.Path.{_≡_, refl, ap, sym, _∙_}
+use native.Mathlib.Omega.{arith}
+use Rattle.geometry.proofs.Neighbour.{bwd-below}
+use Rattle.gauge.proofs.Fits.{sized}
+use Rattle.baryon.proofs.Paths.{stepped-refused, stepped-off, stepped-forward, stepped-backward}
 use borrow.Author.Needs.{needs}
 use Rattle.baryon.proofs.walk.path_step.Statement.{statement}
 use Rattle.baryon.proofs.walk.path_step.Tie as tie
-use Rattle.baryon.proofs.walk.path_step.Reads as reads
-use Rattle.baryon.proofs.walk.path_step.Lts as lts
-use Rattle.baryon.proofs.walk.refused_path.Reads as refused-path-reads
-use Rattle.geometry.proofs.sites.Reads as sites-reads
-use Rattle.links.proofs.link.Reads as link-reads
-use Rattle.mat.proofs.Su3.mul.Reads as mul-reads
-use Rattle.mat.proofs.Su3.mul_dag.Reads as mul-dag-reads
-use Rattle.steps.proofs.bwd.Reads as bwd-reads
-use Rattle.steps.proofs.fwd.Reads as fwd-reads
 
--- src/walk.rt:59:9
 returns : tie.Need-returns
-returns c = ?
+returns c = stepped-refused _ _ _ _ (c .if1 .taken)
 
--- src/walk.rt:62:9
-refused-path-requires : tie.Need-refused-path-requires
-refused-path-requires c κs = search needs
-
--- src/walk.rt:62:9
 returns-2 : tie.Need-returns-2
-returns-2 c = ?
+returns-2 c = c .refused-path .ensures ∙ stepped-off _ _ _ _ (c .before .before .before .if1 .left) (c .before .if2 .taken)
 
--- src/walk.rt:64:9
 sites-requires : tie.Need-sites-requires
-sites-requires c κs = ?
+sites-requires c κs = c .before .before .before .before .before .pre .holds (c .before .before .if1 .left) .shape
 
--- src/walk.rt:65:14
-cast-mu : tie.Need-cast-mu
-cast-mu c = search needs
-
--- src/walk.rt:68:28
 link-requires : tie.Need-link-requires
-link-requires c κs = ?
+link-requires c κs = rw (c .before .before .before .sites .ensures) (record { sized = (sized _ _ (c .before .before .before .before .before .before .before .before .before .pre .holds (c .before .before .before .before .before .before .if1 .left))); axis = omega arith; below = c .before .before .before .before .before .before .before .before .before .pre .below (c .before .before .before .before .before .before .if1 .left) })
 
--- src/walk.rt:68:13
-mul-requires : tie.Need-mul-requires
-mul-requires c κs = search needs
-
--- src/walk.rt:69:13
 fwd-requires : tie.Need-fwd-requires
-fwd-requires c κs = ?
+fwd-requires c κs = (c .before .before .before .before .before .before .before .before .before .before .before .pre .holds (c .before .before .before .before .before .before .before .before .if1 .left) .shape, c .before .before .before .before .before .before .before .before .before .before .before .pre .below (c .before .before .before .before .before .before .before .before .if1 .left), omega (arith, c .before .before .before .before .before .before .if2 .left))
 
--- src/walk.rt:70:9
 returns-3 : tie.Need-returns-3
-returns-3 c = ?
+returns-3 c = let l = rw (c .before .before .link .ensures, c .before .before .before .before .before .before .sites .ensures) at (c .before .mul .ensures) in stepped-forward _ _ _ _ (c .before .before .before .before .before .before .before .before .before .if1 .left) (c .before .before .before .before .before .before .before .if2 .left) (c .before .before .before .if3 .taken) l (c .fwd .ensures)
 
--- src/walk.rt:76:9
 bwd-requires : tie.Need-bwd-requires
-bwd-requires c κs = ?
+bwd-requires c κs = (c .before .before .before .before .before .before .before .before .before .pre .holds (c .before .before .before .before .before .before .if1 .left) .shape, c .before .before .before .before .before .before .before .before .before .pre .below (c .before .before .before .before .before .before .if1 .left), omega (arith, c .before .before .before .before .if2 .left))
 
--- src/walk.rt:77:28
 link-requires-2 : tie.Need-link-requires-2
-link-requires-2 c κs = ?
+link-requires-2 c κs = rw (c .before .before .before .before .sites .ensures) (record { sized = (sized _ _ (c .before .before .before .before .before .before .before .before .before .before .pre .holds (c .before .before .before .before .before .before .before .if1 .left))); axis = omega arith; below = rw (c .bwd .ensures) (bwd-below _ (c .before .before .before .before .before .before .before .before .before .before .pre .holds (c .before .before .before .before .before .before .before .if1 .left) .shape) _ _ (omega (arith, c .before .before .before .before .before .if2 .left))) })
 
--- src/walk.rt:77:9
-mul-dag-requires : tie.Need-mul-dag-requires
-mul-dag-requires c κs = search needs
-
--- src/walk.rt:54:1
 returns-4 : tie.Need-returns-4
-returns-4 c = ?
+returns-4 c = let l = rw (c .before .link2 .ensures, c .before .before .before .before .before .before .sites .ensures) at (c .mul-dag .ensures) in stepped-backward _ _ _ _ (c .before .before .before .before .before .before .before .before .before .if1 .left) (c .before .before .before .before .before .before .before .if2 .left) (c .before .before .before .if3 .left) (c .before .before .bwd .ensures) l
 
 pub path-step-spec : {M : Type 1} → statement M
-path-step-spec =
-    tie.close
-    (tie.spec
-    returns
-    refused-path-requires
-    returns-2
-    sites-requires
-    cast-mu
-    link-requires
-    mul-requires
-    fwd-requires
-    returns-3
-    bwd-requires
-    link-requires-2
-    mul-dag-requires
-    returns-4)
+path-step-spec = tie.close (tie.spec returns (λ c κs. search needs) returns-2 sites-requires (λ c. search needs) link-requires (λ c κs. search needs) fwd-requires returns-3 bwd-requires link-requires-2 (λ c κs. search needs) returns-4)
