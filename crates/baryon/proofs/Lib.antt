@@ -1,3 +1,4 @@
 pub mod Laws
 pub mod Paths
 pub mod Places
+pub mod Bytes

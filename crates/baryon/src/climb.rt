@@ -3,10 +3,12 @@ use crate::judges::stair_row;
 use rows::Count;
 use stairs::Step;
 ghost use mathlib.Core.Path.{_≡_};
+ghost use Prim.Native.Nat.{_<_};
 ghost use Rattle.rows.specs.Answers.{countOf};
 ghost use Rattle.stairs.specs.Staircase.{Near};
 ghost use Rattle.baryon.specs.Climb.{stairOpened, stairNext};
 ghost use Rattle.baryon.specs.Calls.{StaircaseCall};
+ghost use Rattle.baryon.specs.Codes.{codeOf, CodesCall};
 
 // Before the first step.
 fn stair_open(d: [i32; 3], room: usize) -> Stair
@@ -74,4 +76,32 @@ pub fn staircase(d: [i32; 3], steps: &mut [Step]) -> Count
         i += 1;
     }
     stair_close(w)
+}
+
+// A step as one byte.
+fn code(s: Step) -> u8
+    requires { ⌜ s .axis < 4 ⌝ }
+    ensures { λ r. ⌜ r ≡ codeOf s ⌝ }
+{
+    if s.forward {
+        return 2 * s.axis + 1;
+    }
+    2 * s.axis
+}
+
+// The same as `staircase`, with a byte for each step: for a host that has no structs.
+pub fn staircase_codes(d: [i32; 3], codes: &mut [u8]) -> Count
+    ensures { λ r. ⌜ CodesCall d (now (codes .entry)) r (now (codes .exit)) ⌝ }
+{
+    let row = stair_row(d, codes.len());
+    if row != 0 {
+        return Count::Refused(row);
+    }
+    let all = stairs::staircase(d);
+    let steps = all.steps;
+    let n = all.count;
+    for i in 0..n {
+        codes[i] = code(steps[i]);
+    }
+    Count::Value(n)
 }

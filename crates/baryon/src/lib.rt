@@ -6,10 +6,12 @@ mod quarks;
 mod walk;
 
 pub use climb::staircase;
+pub use climb::staircase_codes;
 use mat::Su3;
 pub use quarks::baryon_loop;
 use stairs::Step;
 pub use walk::path;
+pub use walk::path_codes;
 pub use walk::time_line;
 
 // A product of links and the site where it ends, and 0; or the row that refuses the call, and zeros.

@@ -4,11 +4,12 @@ use crate::judges::open_row;
 use mat::Su3;
 use stairs::Step;
 ghost use mathlib.Core.Path.{_≡_};
-ghost use mathlib.Core.List.{[], _∷_};
+ghost use mathlib.Core.List.{[], _∷_, map};
 ghost use Rattle.rows.specs.Rows.{firstRow};
 ghost use Rattle.mat.specs.Matrix.{zeroOf};
 ghost use Rattle.lattice.specs.Situations.{badMatrix};
 ghost use Rattle.baryon.specs.Walk.{Walkable, openedOf, steppedOf, closedOf};
+ghost use Rattle.baryon.specs.Codes.{stepOfCode};
 ghost use Rattle.baryon.specs.Calls.{pathAnswer, pathCall, lineCall};
 
 fn refused_path(row: u32) -> PathAnswer
@@ -101,6 +102,26 @@ pub fn path(extents: [usize; 4], site: usize, links: &[f64], steps: &[Step]) -> 
     while i < steps.len() {
         w = path_step(extents, links, w, steps[i]);
         i += 1;
+    }
+    path_close(w)
+}
+
+fn step_of(code: u8) -> Step
+    ensures { λ r. ⌜ r ≡ stepOfCode code ⌝ }
+{
+    Step {
+        axis: code / 2,
+        forward: code % 2 == 1,
+    }
+}
+
+// The same as `path`, with a byte for each step: for a host that has no structs.
+pub fn path_codes(extents: [usize; 4], site: usize, links: &[f64], codes: &[u8]) -> PathAnswer
+    ensures { λ r. ⌜ r ≡ pathCall extents site (now (links .entry)) (map stepOfCode (now (codes .entry))) ⌝ }
+{
+    let mut w = path_open(extents, site, links.len(), codes.len());
+    for i in 0..codes.len() {
+        w = path_step(extents, links, w, step_of(codes[i]));
     }
     path_close(w)
 }
