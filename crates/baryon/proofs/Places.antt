@@ -41,9 +41,9 @@ step-taken o room i = rw (place-is o room i)
 
 -- ## what an accepted call knows
 
-passed : (o : List ℤ) (room : ℕ) → firstRow (stairRows o room) ≡ 0 → (badOffsets o ≡ false) × (stepsTo o ≤ room)
+pub stair-passed : (o : List ℤ) (room : ℕ) → firstRow (stairRows o room) ≡ 0 → (badOffsets o ≡ false) × (stepsTo o ≤ room)
 unfolding badStepRoom
-passed o room e =
+stair-passed o room e =
     let first = row-passed _ _ _ e in
     let second = row-passed _ _ _ (first .1) in
     (first .0, ltb-false room (stepsTo o) (second .0))
@@ -54,7 +54,7 @@ module _ (o : List ℤ) (room : ℕ) where
   place-near i l = go (firstRow (stairRows o room)) refl l
     where
       go : (r : ℕ) → firstRow (stairRows o room) ≡ r → i < ifAccepted r (stepsTo o) 0 → Near (stairAt o room i .at)
-      go zero e l = let low = steps-low o (passed o room e .0) in near o i (place-is o room i) (omega arith)
+      go zero e l = let low = steps-low o (stair-passed o room e .0) in near o i (place-is o room i) (omega arith)
       go (suc r) e l = absurd (omega arith)
 
   pub room-enough : stairOpened o room .count ≤ room
@@ -62,7 +62,7 @@ module _ (o : List ℤ) (room : ℕ) where
   room-enough = go (firstRow (stairRows o room)) refl
     where
       go : (r : ℕ) → firstRow (stairRows o room) ≡ r → ifAccepted r (stepsTo o) 0 ≤ room
-      go zero e = passed o room e .1
+      go zero e = stair-passed o room e .1
       go (suc r) e = zero-le
 
 -- ## the answer
@@ -81,5 +81,5 @@ staircase-answered o old r exit p e = record { count = is-count _ _ (p ∙ same 
         → fill (λ i. stairAt o (length old) (suc i) .step) old (ifAccepted row (stepsTo o) 0) ≡ ifAccepted row (staircaseOf o ++ drop (stepsTo o) old) old
     go zero h =
         ap (λ (f : ℕ → Step). fill f old (stepsTo o)) (fun-ext (λ i. step-taken o (length old) i))
-        ∙ fill-front (stepAt o) old (stepsTo o) (passed o (length old) h .1)
+        ∙ fill-front (stepAt o) old (stepsTo o) (stair-passed o (length old) h .1)
     go (suc row) h = refl

@@ -5,6 +5,7 @@ use mathlib.Core.Path.{_≡_, refl, ap, _∙_}
 use mathlib.Core.List.{List, [], _∷_}
 use native.Mathlib.Omega.{arith}
 use lib.Ieee.{Float}
+use lib.IntN.{ℤ}
 use lib.ListN.{length}
 use mir.Val.{boolByte}
 use Rattle.rows.specs.declared.Count.{Count}
@@ -25,6 +26,10 @@ use Rattle.sweep.specs.declared.Framed.{Framed}
 use Rattle.sweep.specs.Jobs.{FrameCall}
 use Rattle.fields.specs.declared.ListAnswer.{ListAnswer}
 use Rattle.fields.specs.Calls.{Filled}
+use Rattle.stairs.specs.Staircase.{stepsTo}
+use Rattle.stairs.proofs.Climb.{steps-low}
+use Rattle.baryon.specs.Situations.{stairRows}
+use Rattle.baryon.proofs.Places.{stair-passed}
 use Rattle.export.specs.Face.{Given, CountGiven, NumberGiven}
 use Rattle.export.specs.Jobs.{jobIn, jobNumbers, OpenGiven, FrameGiven}
 
@@ -34,7 +39,18 @@ count-given h e f = record { refusal = e ∙ h .refusal; array = ap (λ (k : ℕ
 pub number-given : {row r : ℕ} {x v : Float} {a : Number} → IsNumber row x a → r ≡ numberRefusal a → v ≡ numberValue a → NumberGiven row x r (v ∷ [])
 number-given h e f = record { refusal = e ∙ h .refusal; array = ap (λ (k : Float). k ∷ []) (f ∙ h .value) }
 
--- ## The link check's count
+-- ## Counts that fit 32 bits
+
+accepted-low : (row : ℕ) {n k : ℕ} → (row ≡ 0 → n ≤ k) → ifAccepted row n 0 ≤ k
+unfolding ifAccepted
+accepted-low zero h = h refl
+accepted-low (suc r) h = omega arith
+
+-- a staircase has few steps
+pub steps-few : (o : List ℤ) (room : ℕ) {v : ℕ} {a : Count} → IsCount (firstRow (stairRows o room)) (stepsTo o) a → v ≡ countValue a → v ≤ 96
+steps-few o room h e = rw (e, h .value) (accepted-low (firstRow (stairRows o room)) (λ p. steps-low o (stair-passed o room p .0)))
+
+-- there are few unsound links
 
 module _ (d : List ℕ) (four : length d ≡ 4) (U : Field) where
   few : fitsOf d ≡ true → length (unsoundLinks d U) ≤ 262144
@@ -47,15 +63,10 @@ module _ (d : List ℕ) (four : length d ≡ 4) (U : Field) where
   fits true rows e = refl
   fits false rows e = absurd (omega (arith, e))
 
-  of-row : (row : ℕ) → (row ≡ 0 → length (unsoundLinks d U) ≤ 262144) → ifAccepted row (length (unsoundLinks d U)) 0 ≤ 262144
-  unfolding ifAccepted
-  of-row zero h = h refl
-  of-row (suc r) h = omega arith
-
   -- so the count fits 32 bits
   pub count-low : (long room : ℕ) {v : ℕ} {a : Count} → IsCount (firstRow (checkRows d long room)) (length (unsoundLinks d U)) a → v ≡ countValue a → v ≤ 262144
   unfolding badExtents
-  count-low long room h e = rw (e, h .value) (of-row (firstRow (checkRows d long room)) (λ p. few (fits (fitsOf d) _ p)))
+  count-low long room h e = rw (e, h .value) (accepted-low (firstRow (checkRows d long room)) (λ p. few (fits (fitsOf d) _ p)))
 
 -- ## Jobs
 

@@ -10,3 +10,4 @@ mod sites;
 mod smearing;
 mod strengths;
 mod sweeps;
+mod walks;
