@@ -43,7 +43,8 @@ fn stair_next(d: [i32; 3], s: Stair) -> Stair
     ensures { λ r. ⌜ r ≡ stairNext d s ⌝ }
 {
     let p = s.at;
-    let a = stairs::best_axis(p, d);
+    let dd = stairs::dot_product(d, d);
+    let a = stairs::best_axis(p, d, dd);
     let at = stairs::moved(p, d, a);
     let step = stairs::step_along(d, a);
     Stair {

@@ -9,26 +9,32 @@ use lib.Ieee.{Float, lt}
 use Rattle.stairs.specs.declared.Nearest.{Nearest}
 use Rattle.stairs.specs.Line.{alongOf}
 use Rattle.stairs.specs.Staircase.{differs, stepDist, leftOf, firstMin, firstOf, bestOf}
-use Rattle.stairs.specs.Best.{noneFound, foundAt, nearerOf}
+use Rattle.stairs.specs.Best.{noneFound, foundAt, betterOf, nearerOf}
 
 AllBelow : ℕ → List ℕ → Type 0
 AllBelow n [] = Unit {0}
 AllBelow n (a ∷ axes) = (a < n) × AllBelow n axes
 
+-- ## the better of two
+
+module _ (best : Nearest) (a : ℕ) (dist : Float) where
+  pub better-first : best .found ≡ false → record { found = true; axis = a; dist = dist } ≡ betterOf best a dist
+  unfolding betterOf
+  better-first g = rw g
+
+  pub better-found : best .found ≡ true → lt dist (best .dist) ≡ true → record { found = true; axis = a; dist = dist } ≡ betterOf best a dist
+  unfolding betterOf
+  better-found g l = rw (g, l)
+
+  pub better-kept : best .found ≡ true → lt dist (best .dist) ≡ false → best ≡ betterOf best a dist
+  unfolding betterOf
+  better-kept g l = rw (g, l)
+
 module _ (p d : List ℤ) where
   -- ## one axis
-  module _ (best : Nearest) (a : ℕ) {dist : Float} (same : dist ≡ stepDist p d a) where
-    pub nearer-first : differs (alongOf p a) (alongOf d a) ≡ true → best .found ≡ false → record { found = true; axis = a; dist = dist } ≡ nearerOf p d best a
-    unfolding nearerOf
-    nearer-first h g = rw (h, g, same)
-
-    pub nearer-found : differs (alongOf p a) (alongOf d a) ≡ true → best .found ≡ true → lt dist (best .dist) ≡ true → record { found = true; axis = a; dist = dist } ≡ nearerOf p d best a
-    unfolding nearerOf
-    nearer-found h g l = rw (h, g, ← same, l)
-
-    pub nearer-kept : differs (alongOf p a) (alongOf d a) ≡ true → best .found ≡ true → lt dist (best .dist) ≡ false → best ≡ nearerOf p d best a
-    unfolding nearerOf
-    nearer-kept h g l = rw (h, g, ← same, l)
+  pub nearer-left : (best : Nearest) (a : ℕ) {dist : Float} {r : Nearest} → differs (alongOf p a) (alongOf d a) ≡ true → dist ≡ stepDist p d a → r ≡ betterOf best a dist → r ≡ nearerOf p d best a
+  unfolding nearerOf
+  nearer-left best a h e f = rw (f, e, h)
 
   pub nearer-none : (best : Nearest) (a : ℕ) → differs (alongOf p a) (alongOf d a) ≡ false → best ≡ nearerOf p d best a
   unfolding nearerOf
@@ -40,7 +46,7 @@ module _ (p d : List ℤ) where
   over best (a ∷ axes) = over (nearerOf p d best a) axes
 
   goes-on : (best : ℕ) (axes : List ℕ) → over (foundAt p d best) axes .axis ≡ firstMin (stepDist p d) best (leftOf p d axes)
-  unfolding nearerOf leftOf firstMin
+  unfolding nearerOf betterOf leftOf firstMin
   goes-on best [] = refl
   goes-on best (a ∷ axes) = go (differs (alongOf p a) (alongOf d a)) (goes-on best axes) (goes-on a axes)
     where
@@ -60,7 +66,7 @@ module _ (p d : List ℤ) where
       go false x y = x
 
   begins : (axes : List ℕ) → over noneFound axes .axis ≡ firstOf (stepDist p d) (leftOf p d axes)
-  unfolding nearerOf leftOf firstOf
+  unfolding nearerOf betterOf leftOf firstOf
   begins [] = refl
   begins (a ∷ axes) = go (differs (alongOf p a) (alongOf d a)) (begins axes) (goes-on a axes)
     where
@@ -71,9 +77,9 @@ module _ (p d : List ℤ) where
       go true x y = y
       go false x y = x
 
-  pub nearest-is-best : nearerOf p d (nearerOf p d (nearerOf p d noneFound 0) 1) 2 .axis ≡ bestOf p d
+  pub best-of : {x y z : Nearest} → x ≡ nearerOf p d noneFound 0 → y ≡ nearerOf p d x 1 → z ≡ nearerOf p d y 2 → z .axis ≡ bestOf p d
   unfolding bestOf
-  nearest-is-best = begins (0 ∷ 1 ∷ 2 ∷ [])
+  best-of a b c = rw (c, b, a) (begins (0 ∷ 1 ∷ 2 ∷ []))
 
 -- ## it is one of them
 

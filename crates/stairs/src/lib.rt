@@ -6,7 +6,7 @@ ghost use lib.IntN.{pos, natAbs, _+ℤ_};
 ghost use lib.Signed.{ltZ};
 ghost use Rattle.stairs.specs.Line.{alongOf, realOf, signum, dot, lineDist};
 ghost use Rattle.stairs.specs.Staircase.{differs, movedOf, bestOf, stepAlong, stepsTo, stairsOf, Near};
-ghost use Rattle.stairs.specs.Best.{nearerOf};
+ghost use Rattle.stairs.specs.Best.{betterOf};
 ghost use Rattle.stairs.specs.Offsets.{badOffset, badOffsets, badQuarks, offsetOf};
 
 // A unit step along an axis of the lattice: 0 is time, 1 to 3 are x, y, z. It has two bytes, so that a
@@ -60,7 +60,7 @@ fn sign(x: i32) -> i32
 }
 
 // The sum of the products, axis by axis.
-fn dot_product(p: [i32; 3], d: [i32; 3]) -> f64
+pub fn dot_product(p: [i32; 3], d: [i32; 3]) -> f64
     ensures { λ r. ⌜ r ≡ dot p d ⌝ }
 {
     let mut s = 0.0;
@@ -70,11 +70,12 @@ fn dot_product(p: [i32; 3], d: [i32; 3]) -> f64
     s
 }
 
-// The square of the distance of p from the line to d.
-fn line_dist(p: [i32; 3], d: [i32; 3]) -> f64
+// The square of the distance of p from the line to d; dd is d · d.
+fn line_dist(p: [i32; 3], d: [i32; 3], dd: f64) -> f64
+    requires { ⌜ dd ≡ dot d d ⌝ }
     ensures { λ r. ⌜ r ≡ lineDist p d ⌝ }
 {
-    let t = dot_product(p, d) / dot_product(d, d);
+    let t = dot_product(p, d) / dd;
     let mut s = 0.0;
     for a in 0..3 {
         let e = real(p, a) - t * real(d, a);
@@ -83,7 +84,7 @@ fn line_dist(p: [i32; 3], d: [i32; 3]) -> f64
     s
 }
 
-// Whether something is left along an axis: the two numbers differ.
+// Whether two numbers differ: then something is left along their axis.
 fn differ(p: i32, d: i32) -> bool
     ensures { λ r. ⌜ r ≡ differs p d ⌝ }
 {
@@ -91,6 +92,13 @@ fn differ(p: i32, d: i32) -> bool
         return true;
     }
     d < p
+}
+
+fn is_left(p: [i32; 3], d: [i32; 3], a: usize) -> bool
+    requires { ⌜ a < 3 ⌝ }
+    ensures { λ r. ⌜ r ≡ differs (alongOf p a) (alongOf d a) ⌝ }
+{
+    differ(along(p, a), along(d, a))
 }
 
 // A number that is one nearer to d.
@@ -113,15 +121,10 @@ pub fn moved(p: [i32; 3], d: [i32; 3], a: usize) -> [i32; 3]
     q
 }
 
-// The better of the best axis so far and an axis, if something is left along that.
-fn nearer(best: Nearest, p: [i32; 3], d: [i32; 3], a: usize) -> Nearest
-    requires { ⌜ Near p × (a < 3) ⌝ }
-    ensures { λ r. ⌜ r ≡ nearerOf p d best a ⌝ }
+// The better of the best axis so far and another.
+fn nearer(best: Nearest, a: usize, dist: f64) -> Nearest
+    ensures { λ r. ⌜ r ≡ betterOf best a dist ⌝ }
 {
-    if !differ(along(p, a), along(d, a)) {
-        return best;
-    }
-    let dist = line_dist(moved(p, d, a), d);
     if best.found {
         if !(dist < best.dist) {
             return best;
@@ -134,20 +137,26 @@ fn nearer(best: Nearest, p: [i32; 3], d: [i32; 3], a: usize) -> Nearest
     }
 }
 
-// The axis of the step that keeps nearest to the line: of equally near ones the first.
-pub fn best_axis(p: [i32; 3], d: [i32; 3]) -> usize
-    requires { ⌜ Near p ⌝ }
+// The axis of the step that keeps nearest to the line: of equally near ones the first. dd is d · d.
+pub fn best_axis(p: [i32; 3], d: [i32; 3], dd: f64) -> usize
+    requires { ⌜ Near p × (dd ≡ dot d d) ⌝ }
     ensures { λ r. ⌜ r ≡ bestOf p d ⌝ }
 {
-    let none = Nearest {
+    let mut best = Nearest {
         found: false,
         axis: 0,
         dist: 0.0,
     };
-    let x = nearer(none, p, d, 0);
-    let y = nearer(x, p, d, 1);
-    let z = nearer(y, p, d, 2);
-    z.axis
+    if is_left(p, d, 0) {
+        best = nearer(best, 0, line_dist(moved(p, d, 0), d, dd));
+    }
+    if is_left(p, d, 1) {
+        best = nearer(best, 1, line_dist(moved(p, d, 1), d, dd));
+    }
+    if is_left(p, d, 2) {
+        best = nearer(best, 2, line_dist(moved(p, d, 2), d, dd));
+    }
+    best.axis
 }
 
 // The step along an axis of space to an offset.
@@ -196,9 +205,10 @@ pub fn staircase(d: [i32; 3]) -> Stairs
         axis: 0,
         forward: false,
     }; 96];
+    let dd = dot_product(d, d);
     let mut p = [0i32; 3];
     for i in 0..n {
-        let a = best_axis(p, d);
+        let a = best_axis(p, d, dd);
         steps[i] = step_along(d, a);
         let q = moved(p, d, a);
         p = q;
