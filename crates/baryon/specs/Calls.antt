@@ -4,7 +4,7 @@ use mathlib.Core.List.{List, _++_}
 use mathlib.Core.Path.{_≡_}
 use lib.Ieee.{Float}
 use lib.IntN.{ℤ}
-use lib.ListN.{length, drop}
+use lib.ListN.{length, drop, replicate}
 use Rattle.rows.specs.declared.Count.{Count}
 use Rattle.rows.specs.declared.Number.{Number}
 use Rattle.rows.specs.Rows.{firstRow, ifAccepted, finally}
@@ -13,9 +13,10 @@ use Rattle.mat.specs.Matrix.{zeroOf}
 use Rattle.gauge.specs.Field.{linkOf}
 use Rattle.lattice.specs.Situations.{badNumber, badMatrix}
 use Rattle.stairs.specs.declared.Step.{Step}
-use Rattle.stairs.specs.Staircase.{stepsTo, staircaseOf}
+use Rattle.stairs.specs.Staircase.{stepsTo, staircaseOf, noStep}
 use Rattle.paths.specs.Path.{Transporter, pathOf, lineOf}
 use Rattle.paths.specs.Baryon.{baryonOf}
+use Rattle.baryon.specs.declared.StairsAnswer.{StairsAnswer}
 use Rattle.baryon.specs.declared.PathAnswer.{PathAnswer}
 use Rattle.baryon.specs.Situations.{stairRows, pathRows, lineRows, loopRows}
 
@@ -27,6 +28,13 @@ staircaseRow o old = firstRow (stairRows o (length old))
 pub record StaircaseCall (o : List ℤ) (old : List Step) (r : Count) (exit : List Step) : Type 0 where
   pub count : IsCount (staircaseRow o old) (stepsTo o) r
   pub list : exit ≡ ifAccepted (staircaseRow o old) (staircaseOf o ++ drop (stepsTo o) old) old
+
+-- the same with a list of its own, 96 places long
+abbrev pub noSteps : List Step
+noSteps = replicate 96 noStep
+
+abbrev pub StaircaseLent : List ℤ → StairsAnswer → Type 0
+StaircaseLent o r = StaircaseCall o noSteps (r .answer) (r .steps)
 
 -- ## Products of links
 

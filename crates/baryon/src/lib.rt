@@ -2,13 +2,17 @@
 // its table, in order, and answers the row's number or what its definition says.
 mod climb;
 mod judges;
+mod lent;
 mod quarks;
 mod walk;
 
 pub use climb::staircase;
 pub use climb::staircase_codes;
+pub use lent::path_lent;
+pub use lent::staircase_lent;
 use mat::Su3;
 pub use quarks::baryon_loop;
+use rows::Count;
 use stairs::Step;
 pub use walk::path;
 pub use walk::path_codes;
@@ -28,4 +32,10 @@ pub struct Stair {
     pub count: usize,
     pub at: [i32; 3],
     pub step: Step,
+}
+
+// What a staircase answers, and its list.
+pub struct StairsAnswer {
+    pub answer: Count,
+    pub steps: [Step; 96],
 }
