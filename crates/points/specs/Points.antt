@@ -12,6 +12,8 @@ use Rattle.rng.specs.Uniform.{uniformOf}
 use Rattle.geometry.specs.Radix.{coordsOf}
 use Rattle.geometry.specs.Steps.{fwdOf, bwdOf, parityOf}
 use Rattle.geometry.specs.Order.{sitesOf}
+use Rattle.stairs.specs.Staircase.{staircaseOf}
+use Rattle.baryon.specs.Codes.{codeOf}
 
 -- what the definitions give, and what it has to be: whole numbers, and an f64 by its bits
 pub record Point : Type 0 where
@@ -32,6 +34,10 @@ twoTo e = fin false 1 e
 abbrev draws : ℕ → Rng → List ℕ
 draws zero g = []
 draws (suc n) g = drawOf g .value ∷ draws n (drawOf g .rng)
+
+-- the steps to an offset, each as twice its axis and 1 more where it goes forward
+abbrev stairs : ℕ → ℕ → ℕ → List ℕ
+stairs x y z = map codeOf (staircaseOf (pos x ∷ pos y ∷ pos z ∷ []))
 
 -- extents t, x, y, z
 abbrev box : List ℕ
@@ -59,6 +65,9 @@ points =
     ∷ record { given = bits (sqrtOf (whole 4)); wanted = bits (whole 2) }
     ∷ record { given = bits (sqrtOf (whole 2)); wanted = 0x3ff6_a09e_667f_3bcd ∷ [] }
     ∷ record { given = bits (sqrtOf (twoTo (negsuc 1073))); wanted = bits (twoTo (negsuc 536)) }
+    -- the staircase to 1, 1, 0 goes up x and then y: a tie takes the lowest axis; there is none to 0, 0, 0
+    ∷ record { given = stairs 1 1 0; wanted = 3 ∷ 5 ∷ [] }
+    ∷ record { given = stairs 0 0 0; wanted = [] }
     ∷ []
 
 abbrev pub PointsHold : Type 0

@@ -1,6 +1,8 @@
 // The published vectors of the generators, and the worked examples that no theorem covers: each is
 // run, printed beside a label, and compared. Standard output is held to the stored one as well.
+mod lines;
 mod overrelaxation;
+mod staircases;
 
 // What splitmix64 gives from the states 0 and 1234567, and xoshiro256++ from 1, 2, 3, 4; where they
 // come from is in docs/DECISIONS.md.
@@ -135,6 +137,8 @@ fn main() {
     let t = t.whole(b"sites of 16 2 2 2 ", sites([16, 2, 2, 2]), 128);
     let t = t.whole(b"row that refuses 18 2 2 2 ", refusal([18, 2, 2, 2]), 1);
     let t = overrelaxation::points(t);
+    let t = staircases::points(t);
+    let t = lines::points(t);
     io::print_decimal(1, t.compared as u64);
     io::write_all(1, b" compared, ");
     io::print_decimal(1, t.differ as u64);
