@@ -5,7 +5,7 @@ ghost use mathlib.Core.Path.{_≡_};
 ghost use Prim.Native.Nat.{_+_, _-_, _%_, _<_};
 ghost use Rattle.geometry.specs.Radix.{volume, coordsOf, nextOf, Within};
 ghost use Rattle.geometry.specs.Shape.{Shape};
-ghost use Rattle.geometry.specs.Steps.{movedOf, fwdOf, bwdOf, nearOf, spotOf};
+ghost use Rattle.geometry.specs.Steps.{fwdOf, bwdOf, nearOf, spotOf};
 ghost use Rattle.geometry.specs.Stride.{stridesOf, upOf, downOf, Step, Standing};
 
 // How far apart neighbours are along each axis, and last the number of sites.
@@ -16,17 +16,6 @@ pub fn strides(d: [usize; 4]) -> [usize; 5]
     let s2 = d[0] * d[1];
     let s3 = s2 * d[2];
     [1, d[0], s2, s3, s3 * d[3]]
-}
-
-// The site k further along an axis, wrapping: only its coordinate c on that axis is another.
-pub fn moved(d: [usize; 4], site: usize, mu: usize, k: usize) -> usize
-    requires { ⌜ Shape d × (site < volume d) × (mu < 4) × (k < 65536) ⌝ }
-    ensures { λ r. ⌜ r ≡ movedOf d site mu k ⌝ }
-{
-    let all = strides(d);
-    let s = all[mu];
-    let c = site / s % d[mu];
-    site + s * ((c + k) % d[mu]) - s * c
 }
 
 // One step up an axis: c is the coordinate, e the extent, s the stride, w the next axis's stride.
