@@ -1,7 +1,7 @@
 -- The best axis so far, axis by axis, is in the end the first of the nearest ones.
 use Prim.Native.Nat.{ℕ, zero, suc, _<_}
-use mathlib.Core.Bool.{Bool, true, false, cond}
-use mathlib.Core.List.{List, [], _∷_}
+use mathlib.Core.Bool.{Bool, true, false, cond, true≢false}
+use mathlib.Core.List.{List, [], _∷_, cons≢nil}
 use mathlib.Core.Path.{_≡_, refl, ap, sym, _∙_}
 use native.Mathlib.Omega.{arith}
 use lib.IntN.{ℤ}
@@ -10,10 +10,6 @@ use Rattle.stairs.specs.declared.Nearest.{Nearest}
 use Rattle.stairs.specs.Line.{alongOf}
 use Rattle.stairs.specs.Staircase.{differs, stepDist, leftOf, firstMin, firstOf, bestOf}
 use Rattle.stairs.specs.Best.{noneFound, foundAt, betterOf, nearerOf}
-
-AllBelow : ℕ → List ℕ → Type 0
-AllBelow n [] = Unit {0}
-AllBelow n (a ∷ axes) = (a < n) × AllBelow n axes
 
 -- ## the better of two
 
@@ -83,30 +79,76 @@ module _ (p d : List ℤ) where
 
 -- ## it is one of them
 
-module _ (f : ℕ → Float) where
-  min-low : (best : ℕ) (axes : List ℕ) (n : ℕ) → best < n → AllBelow n axes → firstMin f best axes < n
-  unfolding firstMin AllBelow
-  min-low best [] n l h = l
-  min-low best (a ∷ axes) n l h = min-low (cond (lt (f a) (f best)) a best) axes n (go (lt (f a) (f best))) (h .1)
+-- what holds of each axis of a list
+All : (ℕ → Type 0) → List ℕ → Type 0
+All P [] = Unit {0}
+All P (a ∷ axes) = P a × All P axes
+
+module _ (f : ℕ → Float) (P : ℕ → Type 0) where
+  min-all : (best : ℕ) (axes : List ℕ) → P best → All P axes → P (firstMin f best axes)
+  unfolding firstMin All
+  min-all best [] l h = l
+  min-all best (a ∷ axes) l h = min-all (cond (lt (f a) (f best)) a best) axes (go (lt (f a) (f best))) (h .1)
     where
-      go : (c : Bool) → cond c a best < n
+      go : (c : Bool) → P (cond c a best)
       go true = h .0
       go false = l
 
-  first-low : (axes : List ℕ) (n : ℕ) → 0 < n → AllBelow n axes → firstOf f axes < n
-  unfolding firstOf AllBelow
-  first-low [] n l h = l
-  first-low (a ∷ axes) n l h = min-low a axes n (h .0) (h .1)
+  first-all : (axes : List ℕ) → (axes ≡ [] → P 0) → All P axes → P (firstOf f axes)
+  unfolding firstOf All
+  first-all [] l h = l refl
+  first-all (a ∷ axes) l h = min-all a axes (h .0) (h .1)
 
-left-low : (p d : List ℤ) (axes : List ℕ) (n : ℕ) → AllBelow n axes → AllBelow n (leftOf p d axes)
-unfolding leftOf AllBelow
-left-low p d [] n h = tt
-left-low p d (a ∷ axes) n h = go (differs (alongOf p a) (alongOf d a)) (left-low p d axes n (h .1))
-  where
-    go : (c : Bool) → AllBelow n (leftOf p d axes) → AllBelow n (cond c (a ∷ leftOf p d axes) (leftOf p d axes))
-    go true l = (h .0, l)
-    go false l = l
+module _ (p d : List ℤ) where
+  abbrev Left : ℕ → Type 0
+  Left a = differs (alongOf p a) (alongOf d a) ≡ true
 
-pub best-low : (p d : List ℤ) → bestOf p d < 3
-unfolding bestOf AllBelow
-best-low p d = first-low (stepDist p d) (leftOf p d (0 ∷ 1 ∷ 2 ∷ [])) 3 (omega arith) (left-low p d (0 ∷ 1 ∷ 2 ∷ []) 3 (omega arith, (omega arith, (omega arith, tt))))
+  left-all : (P : ℕ → Type 0) (axes : List ℕ) → All P axes → All (λ a. P a × Left a) (leftOf p d axes)
+  unfolding leftOf All
+  left-all P [] h = tt
+  left-all P (a ∷ axes) h = go (differs (alongOf p a) (alongOf d a)) refl (left-all P axes (h .1))
+    where
+      go : (c : Bool) → differs (alongOf p a) (alongOf d a) ≡ c → All (λ a. P a × Left a) (leftOf p d axes) → All (λ a. P a × Left a) (cond c (a ∷ leftOf p d axes) (leftOf p d axes))
+      go true e l = ((h .0, e), l)
+      go false e l = l
+
+  -- no axis is left where the list is empty
+  none-left : (axes : List ℕ) → leftOf p d axes ≡ [] → All (λ a. differs (alongOf p a) (alongOf d a) ≡ false) axes
+  unfolding leftOf All
+  none-left [] e = tt
+  none-left (a ∷ axes) e = go (differs (alongOf p a) (alongOf d a)) refl e (none-left axes)
+    where
+      go : (c : Bool) → differs (alongOf p a) (alongOf d a) ≡ c → cond c (a ∷ leftOf p d axes) (leftOf p d axes) ≡ []
+          → (leftOf p d axes ≡ [] → All (λ a. differs (alongOf p a) (alongOf d a) ≡ false) axes)
+          → (differs (alongOf p a) (alongOf d a) ≡ false) × All (λ a. differs (alongOf p a) (alongOf d a) ≡ false) axes
+      go true e h rest = absurd (cons≢nil h)
+      go false e h rest = (e, rest h)
+
+  three : All (λ a. a < 3) (0 ∷ 1 ∷ 2 ∷ [])
+  unfolding All
+  three = (omega arith, (omega arith, (omega arith, tt)))
+
+  pub best-low : bestOf p d < 3
+  unfolding bestOf All
+  best-low = first-all (stepDist p d) (λ a. a < 3) (leftOf p d (0 ∷ 1 ∷ 2 ∷ [])) (λ e. omega arith) (drop-left (leftOf p d (0 ∷ 1 ∷ 2 ∷ [])) (left-all (λ a. a < 3) (0 ∷ 1 ∷ 2 ∷ []) three))
+    where
+      drop-left : (axes : List ℕ) → All (λ a. (a < 3) × Left a) axes → All (λ a. a < 3) axes
+      drop-left [] h = tt
+      drop-left (a ∷ axes) h = (h .0 .0, drop-left axes (h .1))
+
+  -- where something is left, it is left along the best axis
+  pub best-left : (a : ℕ) → a < 3 → Left a → Left (bestOf p d)
+  unfolding bestOf All
+  best-left a l h =
+      first-all (stepDist p d) Left (leftOf p d (0 ∷ 1 ∷ 2 ∷ [])) (λ e. absurd (true≢false (sym h ∙ at a l (none-left (0 ∷ 1 ∷ 2 ∷ []) e))))
+      (only-left (leftOf p d (0 ∷ 1 ∷ 2 ∷ [])) (left-all (λ a. a < 3) (0 ∷ 1 ∷ 2 ∷ []) three))
+    where
+      only-left : (axes : List ℕ) → All (λ a. (a < 3) × Left a) axes → All Left axes
+      only-left [] h = tt
+      only-left (a ∷ axes) h = (h .0 .1, only-left axes (h .1))
+
+      at : (a : ℕ) → a < 3 → All (λ a. differs (alongOf p a) (alongOf d a) ≡ false) (0 ∷ 1 ∷ 2 ∷ []) → differs (alongOf p a) (alongOf d a) ≡ false
+      at zero l h = h .0
+      at (suc zero) l h = h .1 .0
+      at (suc (suc zero)) l h = h .1 .1 .0
+      at (suc (suc (suc n))) l h = absurd (omega arith)

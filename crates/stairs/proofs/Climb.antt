@@ -34,7 +34,7 @@ pub step-is : (d : List ℤ) (i : ℕ) {p : List ℤ} {a : ℕ} {s : Step} → p
 unfolding stepAt
 step-is d i e f g = rw (g, f, e)
 
-long-place : (d : List ℤ) (i : ℕ) → length (placeAt d i) ≡ 3
+pub long-place : (d : List ℤ) (i : ℕ) → length (placeAt d i) ≡ 3
 unfolding placeAt movedOf
 long-place d zero = refl
 long-place d (suc i) = length-set (placeAt d i) _ _ ∙ long-place d i

@@ -1,3 +1,4 @@
 pub mod Whole
 pub mod Best
 pub mod Climb
+pub mod Arrives

@@ -3,3 +3,4 @@ pub mod Line
 pub mod Offsets
 pub mod Staircase
 pub mod Best
+pub mod Claims
