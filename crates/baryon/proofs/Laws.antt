@@ -9,7 +9,7 @@ use Rattle.rows.proofs.Laws.{if-refused, if-accepted}
 use Rattle.mat.specs.Matrix.{zeroOf}
 use Rattle.stairs.specs.Staircase.{stepsTo}
 use Rattle.paths.specs.Path.{Transporter}
-use Rattle.baryon.specs.Situations.{badCount, badTime, badStepRoom}
+use Rattle.baryon.specs.Situations.{badCount, badStepRoom}
 use Rattle.baryon.specs.Calls.{pathAnswer}
 
 pub bad-count : {n : ℕ} → 96 < n → badCount n ≡ true
@@ -19,14 +19,6 @@ bad-count h = rw (lt-ltb _ _ h)
 pub good-count : {n : ℕ} → n ≤ 96 → badCount n ≡ false
 unfolding badCount
 good-count h = rw (le-ltb _ _ h)
-
-pub bad-time : {t : ℕ} → 64 < t → badTime t ≡ true
-unfolding badTime
-bad-time h = rw (lt-ltb _ _ h)
-
-pub good-time : {t : ℕ} → t ≤ 64 → badTime t ≡ false
-unfolding badTime
-good-time h = rw (le-ltb _ _ h)
 
 module _ (o : List ℤ) where
   pub bad-step-room : {room : ℕ} → room < stepsTo o → badStepRoom o room ≡ true

@@ -8,7 +8,7 @@ use lib.IntN.{ℤ}
 use Rattle.lattice.specs.Rows.{Rows}
 use Rattle.lattice.specs.Situations.{badExtents, badLinks, badSite}
 use Rattle.stairs.specs.declared.Step.{Step}
-use Rattle.stairs.specs.Offsets.{badOffsets, badQuarks}
+use Rattle.stairs.specs.Offsets.{badOffsets, badQuarks, badTime}
 use Rattle.stairs.specs.Staircase.{stepsTo}
 
 -- 11: more than 96 steps
@@ -19,10 +19,6 @@ badCount n = ltb 96 n
 unfoldable pub badAxes : List Step → Bool
 badAxes [] = false
 badAxes (s ∷ steps) = ltb 3 (s .axis) || badAxes steps
-
--- 11: a time length above 64
-unfoldable pub badTime : ℕ → Bool
-badTime t = ltb 64 t
 
 -- 12: room for fewer steps than are needed
 unfoldable pub badStepRoom : List ℤ → ℕ → Bool

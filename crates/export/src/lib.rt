@@ -1,4 +1,5 @@
 // The C face: every call that a host in C or Rust can make, under the names of include/jamjune.h.
+mod accumulators;
 mod arithmetic;
 mod blocks;
 mod generator;

@@ -9,10 +9,10 @@ use lib.IntN.{ℤ, pos, negsuc, negℤ, natAbs, subℕ, _+ℤ_, _-ℤ_, +ℤ-idl
 use lib.Signed.{ltZ, nonNeg}
 use mir.Syntax.{w32}
 use mir.Val.{Fits, SFits}
-use borrow.Author.Tests.{ltb-true, ltb-false}
+use borrow.Author.Tests.{lt-ltb, le-ltb, ltb-true, ltb-false}
 use Rattle.rows.proofs.Laws.{or-false}
 use Rattle.stairs.specs.Line.{alongOf, signum}
-use Rattle.stairs.specs.Offsets.{badOffset, badOffsets, badQuarks, offsetOf}
+use Rattle.stairs.specs.Offsets.{badOffset, badOffsets, badQuarks, offsetOf, badTime}
 
 never : {A : Type 0} → false ≡ true → A
 never h = absurd (let z : _≡_ {A = ℕ} 0 1 = cc in omega arith)
@@ -122,3 +122,13 @@ each-quark o q l h =
     go (suc zero) l x y z = y
     go (suc (suc zero)) l x y z = z
     go (suc (suc (suc n))) l x y z = absurd (omega arith)
+
+-- ## time lengths
+
+pub bad-time : {t : ℕ} → 64 < t → badTime t ≡ true
+unfolding badTime
+bad-time h = rw (lt-ltb _ _ h)
+
+pub good-time : {t : ℕ} → t ≤ 64 → badTime t ≡ false
+unfolding badTime
+good-time h = rw (le-ltb _ _ h)

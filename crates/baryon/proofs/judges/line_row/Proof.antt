@@ -1,6 +1,6 @@
 use mathlib.Core.Path.{_≡_, refl, ap, sym, _∙_}
 use Rattle.rows.proofs.Laws.{no-row, row-holds, row-passes, refuses, accepts, first-refuses, first-passes}
-use Rattle.baryon.proofs.Laws.{bad-time, good-time}
+use Rattle.stairs.proofs.Whole.{bad-time, good-time}
 use borrow.Author.Needs.{needs}
 use Rattle.baryon.proofs.judges.line_row.Statement.{statement}
 use Rattle.baryon.proofs.judges.line_row.Tie as tie

@@ -1,0 +1,6 @@
+pub mod Situations
+pub mod Follow
+pub mod Grids
+pub mod Numbers
+pub mod Quarks
+pub mod Answers

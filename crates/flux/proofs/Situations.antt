@@ -1,0 +1,145 @@
+-- When a situation holds and when not.
+use Prim.Native.Nat.{ℕ, _*_, _<_, _≤_}
+use mathlib.Core.Bool.{Bool, true, false, not}
+use mathlib.Core.List.{List}
+use mathlib.Core.Path.{_≡_, refl}
+use lib.Ieee.{Float, eq}
+use lib.Ieee.Scale.{finite}
+use lib.ListN.{getD}
+use borrow.Author.Tests.{lt-ltb, le-ltb, eq-eqb, ne-eqb}
+use Rattle.loops.specs.Loops.{allBelow}
+use Rattle.complex.specs.Rounded.{fzero}
+use Rattle.geometry.specs.Radix.{volume}
+use Rattle.geometry.specs.Shape.{extentTest}
+use Rattle.rows.specs.Finite.{finiteNumbers, badNumbers}
+use Rattle.lattice.specs.Situations.{badNumber}
+use Rattle.flux.specs.declared.FluxAccumulator.{FluxAccumulator}
+use Rattle.flux.specs.Means.{meansOf}
+use Rattle.flux.specs.Situations.{badGrid, badDensities, badGridList, badScratch, badCorrelation, badCount, otherCount, badDensity, fullSamples, noSamples, noMeans, badSums}
+
+-- ## row 1
+
+module _ (n : List ℕ) where
+  pub bad-grid : allBelow (λ a. extentTest (getD n a 0)) 3 ≡ false → badGrid n ≡ true
+  unfolding badGrid
+  bad-grid h = rw h
+
+  pub good-grid : allBelow (λ a. extentTest (getD n a 0)) 3 ≡ true → badGrid n ≡ false
+  unfolding badGrid
+  good-grid h = rw h
+
+  -- ## row 3
+
+  pub bad-grid-list : (count : ℕ) {long : ℕ} → (long ≡ count * volume n → ⊥) → badGridList n count long ≡ true
+  unfolding badGridList
+  bad-grid-list count h = rw (ne-eqb _ _ h)
+
+  pub good-grid-list : (count : ℕ) {long : ℕ} → long ≡ count * volume n → badGridList n count long ≡ false
+  unfolding badGridList
+  good-grid-list count h = rw (eq-eqb _ _ h)
+
+  pub bad-scratch : (count : ℕ) {long : ℕ} → (long ≡ 2 * (count * volume n) → ⊥) → badScratch n count long ≡ true
+  unfolding badScratch
+  bad-scratch count h = rw (ne-eqb _ _ h)
+
+  pub good-scratch : (count : ℕ) {long : ℕ} → long ≡ 2 * (count * volume n) → badScratch n count long ≡ false
+  unfolding badScratch
+  good-scratch count h = rw (eq-eqb _ _ h)
+
+  pub bad-correlation : {long : ℕ} → (long ≡ volume n → ⊥) → badCorrelation n long ≡ true
+  unfolding badCorrelation
+  bad-correlation h = rw (ne-eqb _ _ h)
+
+  pub good-correlation : {long : ℕ} → long ≡ volume n → badCorrelation n long ≡ false
+  unfolding badCorrelation
+  good-correlation h = rw (eq-eqb _ _ h)
+
+module _ (d : List ℕ) (count : ℕ) where
+  pub bad-densities : {long : ℕ} → (long ≡ count * volume d → ⊥) → badDensities d count long ≡ true
+  unfolding badDensities
+  bad-densities h = rw (ne-eqb _ _ h)
+
+  pub good-densities : {long : ℕ} → long ≡ count * volume d → badDensities d count long ≡ false
+  unfolding badDensities
+  good-densities h = rw (eq-eqb _ _ h)
+
+-- ## row 11
+
+-- ## row 13
+
+pub no-count : {count : ℕ} → count ≡ 0 → badCount count ≡ true
+unfolding badCount
+no-count h = rw (eq-eqb _ _ h)
+
+pub high-count : {count : ℕ} → (count ≡ 0 → ⊥) → 4 < count → badCount count ≡ true
+unfolding badCount
+high-count some h = rw (ne-eqb _ _ some, lt-ltb _ _ h)
+
+pub good-count : {count : ℕ} → (count ≡ 0 → ⊥) → count ≤ 4 → badCount count ≡ false
+unfolding badCount
+good-count some h = rw (ne-eqb _ _ some, le-ltb _ _ h)
+
+pub other-count : {count held : ℕ} → (count ≡ held → ⊥) → otherCount count held ≡ true
+unfolding otherCount
+other-count h = rw (ne-eqb _ _ h)
+
+pub same-count : {count held : ℕ} → count ≡ held → otherCount count held ≡ false
+unfolding otherCount
+same-count h = rw (eq-eqb _ _ h)
+
+pub bad-density : {k count : ℕ} → count ≤ k → badDensity k count ≡ true
+unfolding badDensity
+bad-density h = rw (le-ltb _ _ h)
+
+pub good-density : {k count : ℕ} → k < count → badDensity k count ≡ false
+unfolding badDensity
+good-density h = rw (lt-ltb _ _ h)
+
+pub full-samples : {samples : ℕ} → samples ≡ 18446744073709551615 → fullSamples samples ≡ true
+unfolding fullSamples
+full-samples h = rw (eq-eqb _ _ h)
+
+pub room-for-samples : {samples : ℕ} → (samples ≡ 18446744073709551615 → ⊥) → fullSamples samples ≡ false
+unfolding fullSamples
+room-for-samples h = rw (ne-eqb _ _ h)
+
+-- ## row 14
+
+pub no-samples : {samples : ℕ} → samples ≡ 0 → noSamples samples ≡ true
+unfolding noSamples
+no-samples h = rw (eq-eqb _ _ h)
+
+pub some-samples : {samples : ℕ} → (samples ≡ 0 → ⊥) → noSamples samples ≡ false
+unfolding noSamples
+some-samples h = rw (ne-eqb _ _ h)
+
+pub means-tested : (acc : FluxAccumulator) (k : ℕ) {m : Float} {b : Bool} → m ≡ meansOf acc k → eq m fzero ≡ b → noMeans acc k ≡ b
+unfolding noMeans
+means-tested acc k e h = rw (← e) h
+
+-- ## row 10
+
+module _ (grid : List Float) (w : Float) (s : List Float) where
+  pub bad-cells : finiteNumbers grid ≡ false → badSums grid w s ≡ true
+  unfolding badSums badNumbers
+  bad-cells a = rw a
+
+  pub bad-loops : finiteNumbers grid ≡ true → finite w ≡ false → badSums grid w s ≡ true
+  unfolding badSums badNumbers badNumber
+  bad-loops a b = rw (a, b)
+
+  pub sums-left : finiteNumbers grid ≡ true → finite w ≡ true → finiteNumbers s ≡ not (badSums grid w s)
+  unfolding badSums badNumbers badNumber
+  sums-left a b = rw (a, b) (twice (finiteNumbers s))
+    where
+      twice : (x : Bool) → x ≡ not (not x)
+      twice true = refl
+      twice false = refl
+
+pub bad-numbers : (l : List Float) → finiteNumbers l ≡ false → badNumbers l ≡ true
+unfolding badNumbers
+bad-numbers l h = rw h
+
+pub good-numbers : (l : List Float) → finiteNumbers l ≡ true → badNumbers l ≡ false
+unfolding badNumbers
+good-numbers l h = rw h

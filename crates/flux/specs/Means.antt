@@ -1,0 +1,29 @@
+-- Means over the samples, and the correlation of the loop with a density.
+use Prim.Native.Nat.{ℕ, _+_, _*_}
+use mathlib.Core.List.{List, map}
+use lib.Ieee.{Float, binary64, div}
+use Rattle.complex.specs.Rounded.{_⊠_, asFloat}
+use Rattle.geometry.specs.Range.{range}
+use Rattle.geometry.specs.Radix.{volume}
+use Rattle.slices.specs.Slices.{number}
+use Rattle.flux.specs.declared.FluxAccumulator.{FluxAccumulator}
+
+-- a sum over the number of samples, taken as the nearest f64
+unfoldable pub meanOf : Float → ℕ → Float
+meanOf sum samples = div binary64 sum (asFloat samples)
+
+-- ⟨W⟩
+unfoldable pub meanLoop : FluxAccumulator → Float
+meanLoop acc = meanOf (acc .w) (acc .samples)
+
+-- ⟨W⟩ ⟨S_k⟩
+unfoldable pub meansOf : FluxAccumulator → ℕ → Float
+meansOf acc k = meanLoop acc ⊠ meanOf (number (acc .s) k) (acc .samples)
+
+-- C_k(r) = ⟨W S_k(r)⟩ / (⟨W⟩ ⟨S_k⟩) at the r-th offset
+unfoldable pub correlationAt : FluxAccumulator → ℕ → List Float → ℕ → Float
+correlationAt acc k grid r = div binary64 (meanOf (number grid (k * volume (acc .n) + r)) (acc .samples)) (meansOf acc k)
+
+-- at every offset
+unfoldable pub correlationList : FluxAccumulator → ℕ → List Float → List Float
+correlationList acc k grid = map (correlationAt acc k grid) (range (volume (acc .n)))

@@ -1,0 +1,115 @@
+-- The situations that these calls add to the lattice's and the staircases', and each call's rows in the order in which they are tried; row 10 comes after them.
+use Prim.Native.Nat.{ℕ, _+_, _*_}
+use mathlib.Core.Bool.{Bool, not, _||_}
+use mathlib.Core.List.{List, [], _∷_}
+use lib.Dec.{ltb, eqb}
+use lib.Ieee.{Float, eq}
+use lib.IntN.{ℤ}
+use lib.ListN.{getD}
+use Rattle.loops.specs.Loops.{allBelow}
+use Rattle.complex.specs.Rounded.{fzero}
+use Rattle.geometry.specs.Radix.{volume}
+use Rattle.geometry.specs.Shape.{extentTest}
+use Rattle.rows.specs.Finite.{badNumbers}
+use Rattle.lattice.specs.Rows.{Rows}
+use Rattle.lattice.specs.Situations.{badExtents, badLinks, badNumber}
+use Rattle.stairs.specs.Offsets.{badQuarks, badTime}
+use Rattle.flux.specs.declared.FluxAccumulator.{FluxAccumulator}
+use Rattle.flux.specs.Means.{meansOf}
+
+-- ## Situations: n are a grid's extents x, y, z
+
+-- 1: an extent odd, below 2 or above 16
+unfoldable pub badGrid : List ℕ → Bool
+badGrid n = not (allBelow (λ a. extentTest (getD n a 0)) 3)
+
+-- 3: a list of wrong length: of so many densities, of their grid, of the scratch, of one density's correlation
+unfoldable pub badDensities : List ℕ → ℕ → ℕ → Bool
+badDensities d count long = not (eqb long (count * volume d))
+
+unfoldable pub badGridList : List ℕ → ℕ → ℕ → Bool
+badGridList n count long = not (eqb long (count * volume n))
+
+unfoldable pub badScratch : List ℕ → ℕ → ℕ → Bool
+badScratch n count long = not (eqb long (2 * (count * volume n)))
+
+unfoldable pub badCorrelation : List ℕ → ℕ → Bool
+badCorrelation n long = not (eqb long (volume n))
+
+-- 13: a count of densities that is 0 or above 4, or unlike the one held
+unfoldable pub badCount : ℕ → Bool
+badCount count = eqb count 0 || ltb 4 count
+
+unfoldable pub otherCount : ℕ → ℕ → Bool
+otherCount count held = not (eqb count held)
+
+-- 13: a density number not below their count
+unfoldable pub badDensity : ℕ → ℕ → Bool
+badDensity k count = not (ltb k count)
+
+-- 13: a grid whose extents are not the field's x, y, z
+unfoldable pub otherGrid : List ℕ → List ℕ → Bool
+otherGrid n d = not (allBelow (λ a. eqb (getD n a 0) (getD d (a + 1) 0)) 3)
+
+-- 13: samples already 2^64 − 1
+unfoldable pub fullSamples : ℕ → Bool
+fullSamples samples = eqb samples 0xffff_ffff_ffff_ffff
+
+-- 14: no samples
+unfoldable pub noSamples : ℕ → Bool
+noSamples samples = eqb samples 0
+
+-- 14: mean loop times mean density equal to 0, of either sign
+unfoldable pub noMeans : FluxAccumulator → ℕ → Bool
+noMeans acc k = eq (meansOf acc k) fzero
+
+-- 10: a number of the grid, the loops' sum or one of the densities' sums isn't finite
+unfoldable pub badSums : List Float → Float → List Float → Bool
+badSums grid w s = badNumbers grid || badNumber w || badNumbers s
+
+-- ## Rows
+
+-- new; o are the three offsets, t the time length, long the length of the grid's list
+abbrev pub newRows : List ℕ → List ℤ → ℕ → ℕ → ℕ → Rows
+newRows n o t count long = (badGrid n, 1) ∷ (badGridList n count long, 3) ∷ (badQuarks o, 11) ∷ (badTime t, 11) ∷ (badCount count, 13) ∷ []
+
+-- mean_loop
+abbrev pub meanRows : FluxAccumulator → Rows
+meanRows acc =
+    (badGrid (acc .n), 1)
+    ∷ (badQuarks (acc .offsets), 11)
+    ∷ (badTime (acc .«t_len»), 11)
+    ∷ (badCount (acc .count), 13)
+    ∷ (noSamples (acc .samples), 14)
+    ∷ []
+
+-- correlation, by the lengths of the grid's list and of the list to be filled
+abbrev pub correlationRows : FluxAccumulator → ℕ → ℕ → ℕ → Rows
+correlationRows acc k grid out =
+    (badGrid (acc .n), 1)
+    ∷ (badGridList (acc .n) (acc .count) grid, 3)
+    ∷ (badCorrelation (acc .n) out, 3)
+    ∷ (badQuarks (acc .offsets), 11)
+    ∷ (badTime (acc .«t_len»), 11)
+    ∷ (badCount (acc .count), 13)
+    ∷ (badDensity k (acc .count), 13)
+    ∷ (noSamples (acc .samples), 14)
+    ∷ (noMeans acc k, 14)
+    ∷ []
+
+-- add, by the lengths of the lists of links, densities, grid and scratch
+abbrev pub addRows : FluxAccumulator → List ℕ → ℕ → ℕ → ℕ → ℕ → ℕ → Rows
+addRows acc d count links densities grid scratch =
+    (badExtents d, 1)
+    ∷ (badGrid (acc .n), 1)
+    ∷ (badLinks d links, 3)
+    ∷ (badDensities d count densities, 3)
+    ∷ (badGridList (acc .n) count grid, 3)
+    ∷ (badScratch (acc .n) count scratch, 3)
+    ∷ (badQuarks (acc .offsets), 11)
+    ∷ (badTime (acc .«t_len»), 11)
+    ∷ (badCount count, 13)
+    ∷ (otherCount count (acc .count), 13)
+    ∷ (otherGrid (acc .n) d, 13)
+    ∷ (fullSamples (acc .samples), 13)
+    ∷ []

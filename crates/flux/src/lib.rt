@@ -1,0 +1,32 @@
+// The accumulator of loops, densities and their products: each call judges what it is handed by the rows
+// of its table, in order, and answers the row's number or what its definition says. The grid's numbers
+// and the scratch are lent; a refused call stores nothing, except that an addition that fails at row 10
+// leaves its scratch at +0.
+mod addition;
+mod judges;
+mod means;
+mod start;
+
+// Sums over the fields added so far: n are the grid's extents x, y, z, offsets those of three quarks, x, y, z
+// each, and t_len the loops' time length. Of the sums s the first count are in use.
+pub struct FluxAccumulator {
+    pub n: [usize; 3],
+    pub offsets: [i32; 9],
+    pub t_len: usize,
+    pub count: u32,
+    pub samples: u64,
+    pub w: f64,
+    pub s: [f64; 4],
+}
+
+// An accumulator, and 0; or the row that refuses the call, and the accumulator as it was handed in, or zeros
+// where none was.
+pub struct FluxAnswer {
+    pub refusal: u32,
+    pub acc: FluxAccumulator,
+}
+
+// 0 where the list was filled; or the row that refuses the call.
+pub struct CorrelationAnswer {
+    pub refusal: u32,
+}
