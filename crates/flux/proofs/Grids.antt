@@ -46,10 +46,6 @@ cells-small n g =
     let yz = mul-le-mul (high 1 (omega arith)) (high 2 (omega arith)) in
     record { yz = yz; xyz = mul-le-mul (high 0 (omega arith)) yz }
 
--- a count of 32 bits times the cells fits 63
-pub count-fits : (count v : ℕ) → count < 4294967296 → v ≤ 65536 → count * v ≤ 281474976710656
-count-fits count v a b = let a : count ≤ 4294967296 = omega arith in mul-le-mul a b
-
 -- ## a field's x, y, z
 
 pub same-cells : (n d : List ℕ) → length n ≡ 3 → length d ≡ 4 → otherGrid n d ≡ false → volume n ≡ places d

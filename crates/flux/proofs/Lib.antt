@@ -4,3 +4,4 @@ pub mod Grids
 pub mod Numbers
 pub mod Quarks
 pub mod Answers
+pub mod Claims

@@ -27,6 +27,14 @@ Inv-loop scratch₀ links densities count t-len w d a b c s nt v sum₀ t₀ scr
 abbrev μ-loop : tie.MeasureT-loop
 μ-loop scratch₀ links densities count t-len w d a b c s nt v sum₀ t₀ scratch sum t = nt - t
 
+-- the loop value at each site, along the three staircases
+abbrev loopAlong : (c : tie.In-loop Inv-loop μ-loop) → ℕ → Float
+loopAlong c n = let q = c .before .before .before .before .before .before .before .before .before .before .before .before .args in loopOf (q .t4) (linkOf (q .t4) (q .links .now)) (q .t-len) n (taken (c .before .before .before .before .before .before .before .staircase .result)) (taken (c .before .before .before .before .before .staircase2 .result)) (taken (c .before .before .before .staircase3 .result))
+
+-- there is room for a slice in front of the grid
+room : (c : tie.In-loop Inv-loop μ-loop) → places (c .before .before .before .before .before .before .before .before .before .before .before .before .args .t4) ≤ length (c .before .loop .scratch)
+room c = omega (arith, slice-fits (c .before .before .before .before .before .before .before .before .before .before .before .before .args .t4) _ (c .before .before .before .before .before .before .before .before .before .before .before .before .pre .own .some), c .before .before .before .before .before .before .before .before .before .before .before .before .pre .twice, c .before .loop .inv .3)
+
 offset-requires : tie.Need-offset-requires Inv-loop μ-loop
 offset-requires c κs = omega arith
 
@@ -61,12 +69,11 @@ slice-loops-requires : tie.Need-slice-loops-requires Inv-loop μ-loop
 slice-loops-requires c κs =
     let q = c .before .before .before .before .before .before .before .before .before .before .before .before .before .pre in
     let reach = in-reach _ (q .own .quarks) in
-    let fit = slice-fits (c .before .before .before .before .before .before .before .before .before .before .before .before .before .args .t4) _ (q .own .some) in
     record {
       holds = q .holds;
       strides = c .before .before .before .strides .ensures;
       time = c .before .loop-test .taken;
-      room = omega (arith, fit, q .twice, c .before .before .loop .inv .3);
+      room = room (c .before);
       first = quark-passable _ 0 (c .before .before .before .before .before .before .before .before .before .offset .ensures) (reach .first) (c .before .before .before .before .before .before .before .before .staircase .ensures);
       second = quark-passable _ 1 (c .before .before .before .before .before .before .before .offset2 .ensures) (reach .second) (c .before .before .before .before .before .before .staircase2 .ensures);
       third = quark-passable _ 2 (c .before .before .before .before .before .offset3 .ensures) (reach .third) (c .before .before .before .before .staircase3 .ensures);
@@ -74,12 +81,13 @@ slice-loops-requires c κs =
 
 total-requires : tie.Need-total-requires Inv-loop μ-loop
 total-requires c κs =
-    let q = c .before .before .before .before .before .before .before .before .before .before .before .before .before .before .before .before .before .pre in
-    let d = c .before .before .before .before .before .before .before .before .before .before .before .before .before .before .before .before .before .args .t4 in
-    omega (arith, slice-fits d _ (q .own .some), places-are d (q .holds .shape .four), q .twice, c .before .before .before .before .before .before .loop .inv .3, c .before .before .before .slice-loops .kept .0)
+    let start = c .before .before .before .before .before .before .before .before .before .before .before .before .before .before .before .before .before in
+    omega (arith, room (c .before .before .before .before .before), places-are (start .args .t4) (start .pre .holds .shape .four), c .before .before .before .slice-loops .kept .0)
 
 add-slice-cells : tie.Need-add-slice-cells Inv-loop μ-loop
-add-slice-cells c = omega (arith, c .before .before .before .before .before .before .before .before .before .before .before .before .before .before .before .before .before .before .before .pre .own .time, c .before .before .before .before .before .before .before .before .before .before .before .before .before .before .before .before .before .before .before .pre .holds .shape .each 0 (omega arith) .high, c .before .before .before .before .before .before .before .loop-test .taken)
+add-slice-cells c =
+    let start = c .before .before .before .before .before .before .before .before .before .before .before .before .before .before .before .before .before .before .before in
+    omega (arith, start .pre .own .time, start .pre .holds .shape .each 0 (omega arith) .high, c .before .before .before .before .before .before .before .loop-test .taken)
 
 rem-slice-cells : tie.Need-rem-slice-cells Inv-loop μ-loop
 rem-slice-cells c = omega (arith, c .before .before .before .before .before .before .before .before .before .before .before .before .before .before .before .before .before .before .before .pre .holds .shape .each 0 (omega arith) .low)
@@ -95,24 +103,26 @@ add-t c = omega (arith, c .before .before .before .before .before .before .befor
 
 loop-again : tie.Need-loop-again Inv-loop μ-loop
 loop-again c =
-    let q = c .before .before .before .before .before .before .before .before .before .before .before .before .before .before .before .before .before .before .before .before .before .before .pre in
-    let d = c .before .before .before .before .before .before .before .before .before .before .before .before .before .before .before .before .before .before .before .before .before .before .args .t4 in
-    let i = c .before .before .before .before .before .before .before .before .before .before .before .loop .inv in
-    let t = c .before .before .before .before .before .before .before .before .before .before .before .loop .t in
-    let s = c .before .before .before .before .before .before .before .before .before .before .before .loop .scratch in
-    let W : ℕ → Float = λ n. loopOf d (linkOf d (c .before .before .before .before .before .before .before .before .before .before .before .before .before .before .before .before .before .before .before .before .before .before .args .links .now)) (c .before .before .before .before .before .before .before .before .before .before .before .before .before .before .before .before .before .before .before .before .before .before .args .t-len) n (taken (c .before .before .before .before .before .before .before .before .before .before .before .before .before .before .before .before .before .staircase .result)) (taken (c .before .before .before .before .before .before .before .before .before .before .before .before .before .before .before .staircase2 .result)) (taken (c .before .before .before .before .before .before .before .before .before .before .before .before .before .staircase3 .result)) in
-    let fit = slice-fits d _ (q .own .some) in
-    let room : places d ≤ length s = omega (arith, fit, q .twice, i .3) in
-    let filled = c .before .before .before .before .before .before .before .before .slice-loops .ensures in
+    let start = c .before .before .before .before .before .before .before .before .before .before .before .before .before .before .before .before .before .before .before .before .before .before in
+    let q = start .pre in
+    let a = start .args in
+    let d = a .t4 in
+    let turn = c .before .before .before .before .before .before .before .before .before .before .before .loop in
+    let t = turn .t in
+    let W = loopAlong (c .before .before .before .before .before .before .before .before .before .before) in
+    let old = drop (a .count * places d) (a .scratch .now) in
+    let filled = c .before .before .before .before .before .before .before .before .slice-loops in
+    let s = filled .last .0 in
     let axis = axis-in d (q .holds .shape) 0 (omega arith) in
-    let after = c .before .before .before .before .before .before .before .before .slice-loops .last .0 in
-    let front = front-filled d W t _ s room (λ k h. ap W (sym (site-at d axis t k h))) filled in
-    let old = drop (c .before .before .before .before .before .before .before .before .before .before .before .before .before .before .before .before .before .before .before .before .before .before .args .count * places d) (c .before .before .before .before .before .before .before .before .before .before .before .before .before .before .before .before .before .before .before .before .before .before .args .scratch .now) in
-    let dens = c .before .before .before .before .before .before .before .before .before .before .before .before .before .before .before .before .before .before .before .before .before .before .args .densities .now in
-    let back = back-kept d W dens (c .before .before .before .before .before .before .before .before .before .before .before .before .before .before .before .before .before .before .before .before .before .before .args .t-len) (c .before .before .before .before .before .before .before .before .before .before .before .before .before .before .before .before .before .before .before .before .before .before .args .count) old _ s (q .own .some) filled ∙ i .2 in
-    let sum = loop-sum d W t after front (rw (places-are d (q .holds .shape .four)) at (c .before .before .before .before .total .ensures)) in
-    let long : c .before .before .before .before .before .before .before .before .before .before .before .before .before .before .before .before .before .before .before .before .before .before .args .count * places d ≤ length after = omega (arith, q .twice, i .3, c .before .before .before .before .before .before .before .before .slice-loops .kept .0) in
-    (omega (arith, c .before .before .before .before .before .before .before .before .before .before .loop-test .taken), loops-next d W _ t (i .1) sum, grid-next d W dens (c .before .before .before .before .before .before .before .before .before .before .before .before .before .before .before .before .before .before .before .before .before .before .args .t-len) (c .before .before .before .before .before .before .before .before .before .before .before .before .before .before .before .before .before .before .before .before .before .before .args .count) old t after long front back (c .before .before .slice-cells .ensures), c .before .before .slice-cells .kept .0 ∙ c .before .before .before .before .before .before .before .before .slice-loops .kept .0 ∙ i .3)
+    let front = front-filled d W t _ (turn .scratch) (room (c .before .before .before .before .before .before .before .before .before .before)) (λ k h. ap W (sym (site-at d axis t k h))) (filled .ensures) in
+    let back = back-kept d W (a .densities .now) (a .t-len) (a .count) old _ (turn .scratch) (q .own .some) (filled .ensures) ∙ turn .inv .2 in
+    let sum = loop-sum d W t s front (rw (places-are d (q .holds .shape .four)) at (c .before .before .before .before .total .ensures)) in
+    let long : a .count * places d ≤ length s = omega (arith, q .twice, turn .inv .3, filled .kept .0) in (
+      omega (arith, c .before .before .before .before .before .before .before .before .before .before .loop-test .taken),
+      loops-next d W _ t (turn .inv .1) sum,
+      grid-next d W (a .densities .now) (a .t-len) (a .count) old t s long front back (c .before .before .slice-cells .ensures),
+      c .before .before .slice-cells .kept .0 ∙ filled .kept .0 ∙ turn .inv .3,
+    )
 
 same-length : tie.Need-same-length Inv-loop μ-loop
 same-length c = c .before .loop .inv .3
@@ -122,7 +132,10 @@ returns c =
     let q = c .before .before .before .before .before .before .before .before .before .before .before .before .args in
     let d = q .t4 in
     let e : c .before .loop .t ≡ getD d 0 0 = omega arith in
-    let same = loops-are d (linkOf d (q .links .now)) (q .t-len) (q .o) (c .before .before .before .before .before .before .before .before .offset .ensures) (c .before .before .before .before .before .before .offset2 .ensures) (c .before .before .before .before .offset3 .ensures) (c .before .before .before .before .before .before .before .staircase .ensures) (c .before .before .before .before .before .staircase2 .ensures) (c .before .before .before .staircase3 .ensures) in
+    let same =
+    loops-are d (linkOf d (q .links .now)) (q .t-len) (q .o)
+    (c .before .before .before .before .before .before .before .before .offset .ensures) (c .before .before .before .before .before .before .offset2 .ensures) (c .before .before .before .before .offset3 .ensures)
+    (c .before .before .before .before .before .before .before .staircase .ensures) (c .before .before .before .before .before .staircase2 .ensures) (c .before .before .before .staircase3 .ensures) in
     let old = drop (q .count * places d) (q .scratch .now) in
     record {
       loops = loops-done _ _ _ e (c .before .loop .inv .1) ∙ ap (λ (W : ℕ → Float). loopsOf d W (q .w)) same;
