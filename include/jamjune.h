@@ -2,7 +2,7 @@
  *
  * Arrays and lists. An array points to as many elements as its brackets say. A list is a pointer and a length in
  * elements; the pointer must not be null and must be aligned, even where the length is 0. What is written (arrays named
- * out and out_*, a generator's state, a pass, a job that is not const, lists without const) must overlap no other
+ * out and out_*, a generator's state, a pass, a job or an accumulator that is not const, lists without const) must overlap no other
  * argument. Nothing is kept between calls.
  *
  * A matrix is 18 doubles: nine complex numbers row by row, each real part first. A 2x2 block is 8 doubles likewise. A
@@ -16,11 +16,12 @@
  * Refusals. A call that returns uint32_t and can refuse returns the number of the first row below that holds among those
  * named at the call, and 0 where none does. Rows are tried in the order of their numbers, but 9 and then 10 last. Each
  * array named out or out_* is written in every case: refused, its numbers are 0 or +0. A refused call leaves every list,
- * pass and job as it was.
+ * pass, job and accumulator as it was, but that row 10 in jj_add leaves the scratch at +0.
  *
  *    1   an extent is odd, below 2 or above 16
  *    2   the coupling is not finite, below 0 or above 100 (-0 passes)
- *    3   a list of links, read or written, has not 72 numbers per site, or a density's list not one per site
+ *    3   a list of links, read or written, has not 72 numbers per site, or a density's list not one per site; for
+ *        accumulators, see there
  *    4   a site is not below the number of sites, or a coordinate not below its extent
  *    5   a direction is above 3, a plane's two directions are equal, or a subgroup or an axis of space is above 2
  *    6   a parity is above 1
@@ -28,7 +29,12 @@
  *    8   a job has visited above half the sites, stuck above visited, a direction above 3 or a parity above 1
  *    9   the link is stuck
  *   10   a number to be answered or stored is not finite
- *   12   the list for unsound links has fewer than 4 places per site
+ *   11   a step's axis is above 3, there are more than 96 steps, an offset is below -32 or above 32, or a time length is
+ *        above 64
+ *   12   the list for unsound links has fewer than 4 places per site, or that for steps fewer than are needed
+ *   13   a count of densities is 0, above 4 or unlike the accumulator's, a density's number is not below it, the grid is
+ *        not the field's, or samples cannot grow
+ *   14   a mean of no samples; a correlation where the mean loop times the mean density is 0
  *
  * Calls that name no row refuse nothing: every input has a defined answer, infinities and NaN included. */
 #ifndef JAMJUNE_H
@@ -250,5 +256,57 @@ uint32_t jj_topological_charge_density(const size_t ext[4], const double *links,
 /* density = for each site in ascending order, minus the real trace of F F in the plane of t and an axis of space: 0 for
  * x, 1 for y, 2 for z. Rows 1, 3, 5, 10. */
 uint32_t jj_electric_sq(const size_t ext[4], size_t axis, const double *links, size_t n, double *density, size_t m);
+
+/* ---- staircases, paths and loops
+ *
+ * A step is one byte: twice its axis, a direction, and 1 more where it goes forward. A quark's offset is three numbers
+ * along x, y, z from the junction; three quarks' are nine, quark by quark. The staircase to an offset goes one step at a
+ * time along an axis of space where something is left: the one whose step ends nearest to the straight line, in f64, and
+ * of equally near ones the first. It has |dx| + |dy| + |dz| steps. */
+
+/* The staircase to d: its steps go to the front of steps, later places stay; out_count = how many. Rows 11, 12. */
+uint32_t jj_staircase(const int32_t d[3], uint8_t *steps, size_t room, uint32_t out_count[1]);
+
+/* out = the product of the links along the steps from a site, beginning with the identity; out_end = the site where they
+ * end. A step forward multiplies by the link and moves; one backward moves and multiplies by the dagger of the link
+ * there. Rows 1, 3, 4, 11, 10. */
+uint32_t jj_path(const size_t ext[4], size_t site, const double *links, size_t n, const uint8_t *steps, size_t count, double out[18], size_t out_end[1]);
+
+/* The same along t_len steps forward in time; the identity for none. Rows 1, 3, 4, 11, 10. */
+uint32_t jj_time_line(const size_t ext[4], size_t site, size_t t_len, const double *links, size_t n, double out[18], size_t out_end[1]);
+
+/* out = the loop of three quarks: a quark's line goes along its staircase from the site, t_len links along time, and back
+ * along the staircase from the site t_len later; the lines' three matrices contracted with two antisymmetric tensors; the
+ * real part over 6. Rows 1, 3, 4, 11, 10. */
+uint32_t jj_baryon_loop(const size_t ext[4], size_t site, const int32_t offsets[9], size_t t_len, const double *links, size_t n, double out[1]);
+
+/* ---- the flux accumulator
+ *
+ * An accumulator is three arrays: counts (nx, ny, nz, time length, density count, samples), the three quarks' offsets,
+ * and sums (w, s0, s1, s2, s3); and a list, its grid, of density count times nx ny nz numbers: density first, then the
+ * offset r, x fastest. Rows 1, 11 and 13 judge its own numbers in every call; a density count that does not fit 32 bits
+ * is refused as one too large. Row 3 here: density has densities times the field's sites, grid densities times nx ny nz,
+ * scratch twice as many, and a correlation's list nx ny nz; in jj_correlation the count is the accumulator's.
+ *
+ * samples counts sites and stops at 2^64 - 1, at which nothing can be added any more. */
+
+/* A new accumulator: out_counts and out_sums with no samples and +0; every number of grid +0. Rows 1, 3, 11, 13. */
+uint32_t jj_new(const size_t grid_ext[3], const int32_t offsets[9], size_t t_len, uint32_t densities, double *grid, size_t g, uint64_t out_counts[6], double out_sums[5]);
+
+/* Adds a field with its densities, each one number per site, one density after the other. W being the loop at each site
+ * as by jj_baryon_loop, and r an offset: grid's number for density k and r grows by the sum over all sites of W times the
+ * density at r from there, at the time half the time length later; w by the sum of W, sk by that of the density. Sums are
+ * taken slice by slice of equal time, each from +0. Any number of times will do; x, y, z must be the grid's. scratch may
+ * hold anything before, and is +0 after: accepted, or refused by row 10, where nothing else changes. Refused by another
+ * row, nothing changes. Rows 1, 3, 11, 13, 10. */
+uint32_t jj_add(uint64_t counts[6], const int32_t offsets[9], double sums[5], const size_t ext[4], uint32_t densities, const double *links, size_t n,
+                const double *density, size_t m, double *grid, size_t g, double *scratch, size_t s);
+
+/* out = w / samples. Rows 1, 11, 13, 14, 10. */
+uint32_t jj_mean_loop(const uint64_t counts[6], const int32_t offsets[9], const double sums[5], double out[1]);
+
+/* out_list = for each offset r, the grid's number over samples, over (w / samples) (sk / samples). Row 14 where that
+ * product is 0: there is no correlation to be shown then. Rows 1, 3, 11, 13, 14, 10. */
+uint32_t jj_correlation(const uint64_t counts[6], const int32_t offsets[9], const double sums[5], uint32_t density, const double *grid, size_t g, double *out_list, size_t m);
 
 #endif

@@ -123,7 +123,8 @@ fn finish(
     ensures { λ r. ⌜ Finished old new (now (grid .entry)) (now (scratch .entry)) r (now (grid .exit)) (now (scratch .exit)) ⌝ }
 {
     let s = new.s;
-    if !finite_sums(scratch, grid.len(), new.w, s) {
+    let g = grid.len();
+    if !finite_sums(scratch, g, new.w, s) {
         slices::clear(scratch);
         return FluxAnswer {
             refusal: 10,
