@@ -30,14 +30,6 @@ in-space Density.Action h = tt
 in-space Density.Charge h = tt
 in-space (Density.Electric axis) h = omega (arith, ltb-false 2 axis h)
 
-pub bad-numbers : (l : List Float) → finiteNumbers l ≡ false → badNumbers l ≡ true
-unfolding badNumbers
-bad-numbers l h = rw h
-
-pub good-numbers : (l : List Float) → finiteNumbers l ≡ true → badNumbers l ≡ false
-unfolding badNumbers
-good-numbers l h = rw h
-
 pub bad-six : (f : List Su3) → finiteSix f ≡ false → badSix f ≡ true
 unfolding badSix
 bad-six f h = rw h

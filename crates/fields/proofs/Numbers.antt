@@ -26,23 +26,7 @@ use Rattle.links.proofs.Laws.{link-same, link-other, number-below}
 use Rattle.gauge.specs.Field.{Holds, Link, partOf, listOf}
 use Rattle.gauge.proofs.Lists.{length-list, number-at, list-holds}
 use Rattle.rows.specs.Finite.{finiteNumbers}
-
--- two tests that imply each other
-same-test : (a b : Bool) → (a ≡ true → b ≡ true) → (b ≡ true → a ≡ true) → a ≡ b
-same-test true b f g = sym (f refl)
-same-test false true f g = g refl
-same-test false false f g = refl
-
--- ## one number at each place
-
-module _ (f : ℕ → Float) where
-  pub finite-listed : (n : ℕ) → allBelow (λ k. finite (f k)) n ≡ finiteNumbers (map f (range n))
-  unfolding finiteNumbers
-  finite-listed n =
-      rw (length-listed f n)
-      (same-test _ _
-      (λ h. each-all _ n (λ k g. ap finite (listed-at f nan n k g) ∙ all-each (λ k. finite (f k)) n k g h))
-      (λ h. each-all _ n (λ k g. ap finite (sym (listed-at f nan n k g)) ∙ all-each (λ k. finite (getD (map f (range n)) k nan)) n k g h)))
+use Rattle.lattice.proofs.Listed.{same-test}
 
 -- ## one matrix for each link
 

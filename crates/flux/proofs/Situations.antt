@@ -135,11 +135,3 @@ module _ (grid : List Float) (w : Float) (s : List Float) where
       twice : (x : Bool) → x ≡ not (not x)
       twice true = refl
       twice false = refl
-
-pub bad-numbers : (l : List Float) → finiteNumbers l ≡ false → badNumbers l ≡ true
-unfolding badNumbers
-bad-numbers l h = rw h
-
-pub good-numbers : (l : List Float) → finiteNumbers l ≡ true → badNumbers l ≡ false
-unfolding badNumbers
-good-numbers l h = rw h

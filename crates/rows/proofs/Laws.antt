@@ -9,6 +9,7 @@ use lib.Ieee.{Float}
 use borrow.Author.Tests.{ltb-true}
 use Rattle.rows.specs.declared.Number.{Number}
 use Rattle.rows.specs.declared.Count.{Count}
+use Rattle.rows.specs.Finite.{finiteNumbers, badNumbers}
 use Rattle.rows.specs.Rows.{firstRow, ifAccepted, finally, Judged}
 use Rattle.rows.specs.Answers.{numberRefusal, numberValue, numberOf, IsNumber, countRefusal, countValue, countOf, IsCount}
 
@@ -110,6 +111,29 @@ module _ {rows : List (Bool × ℕ)} {Facts : Type 0} {r : ℕ} (first : Judged 
 
   pub first-passes : numbered rows ≡ true → r ≡ 0 → firstRow (rows ++ more) ≡ firstRow more
   first-passes above e = rows-pass rows more above (sym (first .row) ∙ e)
+
+module _ {rows : List (Bool × ℕ)} {Facts : Type 0} {r : ℕ} (judged : Judged rows Facts r) (all : List (Bool × ℕ)) where
+  -- where other rows have passed, and more are to come
+  module _ (more : List (Bool × ℕ)) (passed : firstRow all ≡ firstRow (rows ++ more)) where
+    pub next-refuses : {Further : Type 0} → (r ≡ 0 → ⊥) → Judged all Further r
+    next-refuses ne = record { row = judged .row ∙ sym (rows-refuse rows more (λ e. ne (judged .row ∙ e))) ∙ sym passed; accepted = λ e. absurd (ne e) }
+
+    pub next-passes : numbered rows ≡ true → r ≡ 0 → firstRow all ≡ firstRow more
+    next-passes above e = passed ∙ rows-pass rows more above (sym (judged .row) ∙ e)
+
+  -- where other rows have passed, and these are the last
+  pub ends-with : firstRow all ≡ firstRow rows → Judged all Facts r
+  ends-with passed = record { row = judged .row ∙ sym passed; accepted = judged .accepted }
+
+-- ## row 10 for a list
+
+pub bad-numbers : (l : List Float) → finiteNumbers l ≡ false → badNumbers l ≡ true
+unfolding badNumbers
+bad-numbers l h = rw h
+
+pub good-numbers : (l : List Float) → finiteNumbers l ≡ true → badNumbers l ≡ false
+unfolding badNumbers
+good-numbers l h = rw h
 
 -- ## answers that are an enum
 

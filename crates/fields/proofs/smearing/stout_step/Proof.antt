@@ -4,7 +4,8 @@ use native.Mathlib.Omega.{arith}
 use borrow.Author.Tests.{not-true, not-false}
 use Rattle.rows.proofs.Laws.{row-holds, row-passes, no-row, first-row, last-row}
 use Rattle.fields.specs.Calls.{smearRow}
-use Rattle.fields.proofs.Laws.{bad-numbers, good-numbers, list-kept, list-filled}
+use Rattle.rows.proofs.Laws.{bad-numbers, good-numbers}
+use Rattle.fields.proofs.Laws.{list-kept, list-filled}
 use Rattle.fields.proofs.smearing.stout_step.Statement.{statement}
 use Rattle.fields.proofs.smearing.stout_step.Tie as tie
 

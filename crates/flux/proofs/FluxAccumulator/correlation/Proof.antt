@@ -7,7 +7,7 @@ use borrow.Author.Tests.{not-true, not-false}
 use Rattle.rows.specs.Finite.{finiteNumbers}
 use Rattle.rows.proofs.Laws.{row-holds, row-passes, no-row, first-row, last-row}
 use Rattle.flux.specs.Calls.{correlationRow}
-use Rattle.flux.proofs.Situations.{bad-numbers, good-numbers}
+use Rattle.rows.proofs.Laws.{bad-numbers, good-numbers}
 use Rattle.flux.proofs.Answers.{correlations-are, correlation-refused, correlation-filled}
 use borrow.Author.Needs.{needs}
 use Rattle.flux.proofs.FluxAccumulator.correlation.Statement.{statement}

@@ -4,7 +4,7 @@ use Rattle.rows.specs.Rows.{firstRow}
 use Rattle.flux.specs.Situations.{otherCount, otherGrid, fullSamples, addRows}
 use Rattle.rows.proofs.Laws.{no-row, row-holds, row-passes, refuses, accepts, first-refuses, first-passes}
 use Rattle.flux.proofs.Situations.{other-count, same-count, full-samples, room-for-samples}
-use Rattle.flux.proofs.Follow.{next-refuses, next-passes}
+use Rattle.rows.proofs.Laws.{next-refuses, next-passes}
 use Rattle.flux.proofs.Grids.{same-cells}
 use borrow.Author.Needs.{needs}
 use Rattle.flux.proofs.judges.add_row.Statement.{statement}

@@ -11,7 +11,7 @@ use native.Mathlib.Omega.{arith}
 use Rattle.rows.proofs.Laws.{no-row, row-holds, row-passes, refuses, accepts, first-refuses, first-passes}
 use Rattle.flux.specs.Means.{meanLoop, meansOf}
 use Rattle.flux.proofs.Situations.{bad-grid-list, good-grid-list, bad-correlation, good-correlation, bad-density, good-density, no-samples, some-samples, means-tested}
-use Rattle.flux.proofs.Follow.{next-refuses, next-passes}
+use Rattle.rows.proofs.Laws.{next-refuses, next-passes}
 use borrow.Author.Needs.{needs}
 use Rattle.flux.proofs.judges.correlation_row.Statement.{statement}
 use Rattle.flux.proofs.judges.correlation_row.Tie as tie

@@ -4,7 +4,7 @@ use Rattle.rows.specs.Rows.{firstRow}
 use Rattle.flux.specs.Situations.{noSamples, meanRows}
 use Rattle.rows.proofs.Laws.{no-row, row-holds, row-passes, refuses, accepts, first-refuses, first-passes}
 use Rattle.flux.proofs.Situations.{no-samples, some-samples}
-use Rattle.flux.proofs.Follow.{next-refuses, next-passes}
+use Rattle.rows.proofs.Laws.{next-refuses, next-passes}
 use borrow.Author.Needs.{needs}
 use Rattle.flux.proofs.judges.mean_row.Statement.{statement}
 use Rattle.flux.proofs.judges.mean_row.Tie as tie

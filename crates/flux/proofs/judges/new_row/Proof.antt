@@ -3,7 +3,7 @@ use native.Mathlib.Nat.{mul-le-mul, le-of-lt}
 use native.Mathlib.Omega.{arith}
 use Rattle.rows.proofs.Laws.{row-holds, row-passes, refuses, first-refuses, first-passes}
 use Rattle.flux.proofs.Situations.{bad-grid-list, good-grid-list}
-use Rattle.flux.proofs.Follow.{ends-with}
+use Rattle.rows.proofs.Laws.{ends-with}
 use borrow.Author.Needs.{needs}
 use Rattle.flux.proofs.judges.new_row.Statement.{statement}
 use Rattle.flux.proofs.judges.new_row.Tie as tie

@@ -11,7 +11,7 @@ use Rattle.rows.proofs.Laws.{no-row, row-holds, row-passes, refuses, accepts, f
 use Rattle.geometry.proofs.Shape.{volume-high}
 use Rattle.lattice.proofs.Laws.{bad-links, good-links}
 use Rattle.flux.proofs.Situations.{bad-densities, good-densities, bad-grid-list, good-grid-list, bad-scratch, good-scratch}
-use Rattle.flux.proofs.Follow.{next-refuses, next-passes}
+use Rattle.rows.proofs.Laws.{next-refuses, next-passes}
 use borrow.Author.Needs.{needs}
 use Rattle.flux.proofs.judges.size_row.Statement.{statement}
 use Rattle.flux.proofs.judges.size_row.Tie as tie

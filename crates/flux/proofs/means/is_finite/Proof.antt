@@ -6,10 +6,10 @@ use native.Mathlib.Omega.{arith}
 use lib.Ieee.Scale.{finite}
 use borrow.Author.Tests.{not-true, not-false}
 use Rattle.loops.specs.Loops.{allBelow}
-use Rattle.loops.proofs.Laws.{all-none, all-next}
+use Rattle.loops.proofs.Laws.{all-none, all-next, all-fails}
 use Rattle.slices.specs.Slices.{number}
 use Rattle.flux.specs.Parts.{ratio}
-use Rattle.flux.proofs.Numbers.{listed-finite, listed-fails}
+use Rattle.lattice.proofs.Listed.{finite-listed}
 use Rattle.flux.proofs.means.is_finite.Statement.{statement}
 use Rattle.flux.proofs.means.is_finite.Tie as tie
 
@@ -32,13 +32,13 @@ shared-slice-read-over : tie.Need-shared-slice-read-over Inv-loop μ-loop
 shared-slice-read-over c = omega (arith, c .before .before .before .before .pre, c .before .loop-test .taken)
 
 returns : tie.Need-returns Inv-loop μ-loop
-returns c = listed-fails _ _ (c .before .before .before .before .before .loop .i) (c .before .before .before .before .loop-test .taken) (sym (rw (c .before .before .over .ensures) at (c .before .is-finite .ensures)) ∙ not-true _ (c .if1 .taken))
+returns c = sym (all-fails _ _ (c .before .before .before .before .before .loop .i) (c .before .before .before .before .loop-test .taken) (sym (rw (c .before .before .over .ensures) at (c .before .is-finite .ensures)) ∙ not-true _ (c .if1 .taken))) ∙ finite-listed _ _
 
 loop-again : tie.Need-loop-again Inv-loop μ-loop
 loop-again c = (omega arith, all-next _ _ (c .before .before .before .before .before .loop .inv .1) (sym (rw (c .before .before .over .ensures) at (c .before .is-finite .ensures)) ∙ not-false _ (c .if1 .left)))
 
 returns-2 : tie.Need-returns-2 Inv-loop μ-loop
-returns-2 c = let e : c .before .loop .i ≡ c .before .before .before .args .cells = omega arith in listed-finite _ _ (rw e at (c .before .loop .inv .1))
+returns-2 c = let e : c .before .loop .i ≡ c .before .before .before .args .cells = omega arith in sym (rw e at (c .before .loop .inv .1)) ∙ finite-listed _ _
 
 pub is-finite-spec : {M : Type 1} → statement M
 is-finite-spec = tie.close (tie.spec Inv-loop μ-loop loop-holds add-over mul-over shared-slice-read-over (λ c κs. search needs) (λ c κs. search needs) returns (λ c. search needs) (λ c. search needs) loop-again returns-2)
