@@ -1,16 +1,7 @@
-use lines::field_lines::over_links;
-use sample::print::spaced_decimal;
-use sample::print::spaced_hex;
+use lines::field_lines::row_and_list;
 use sample::print::spaced_number;
 
 // Lines of calls that fill a list. It holds sevens before, and still does where a call is refused.
-
-// The refusal number, and the list as it is now.
-fn row_and_list(row: u32, list: &[f64]) {
-    spaced_decimal(row as u64);
-    let h = over_links(list);
-    spaced_hex(h.state);
-}
 
 pub fn action_line(extents: [usize; 4], links: &[f64]) {
     let mut density = [7.0; 96];

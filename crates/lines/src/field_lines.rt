@@ -30,6 +30,13 @@ pub fn over_links(links: &[f64]) -> Fnv {
     h
 }
 
+// Goes on with a refusal number, and the list that its call fills, as it is now.
+pub fn row_and_list(row: u32, list: &[f64]) {
+    spaced_decimal(row as u64);
+    let h = over_links(list);
+    spaced_hex(h.state);
+}
+
 // Adds a matrix to the hash, and where it is refused its refusal number alone.
 pub fn matrix(h: Fnv, r: MatrixAnswer) -> Fnv {
     if r.refusal == 0 {
@@ -71,7 +78,7 @@ fn staples(plan: Plan, links: &[f64]) -> Fnv {
 }
 
 // A refusal number, or 0, and a number, or +0.
-fn number_line(label: &[u8], r: Number) {
+pub fn number_line(label: &[u8], r: Number) {
     io::write_all(1, label);
     match r {
         Number::Value(x) => {

@@ -43,4 +43,5 @@ fn main() {
     lattice_lines([2, 6, 4, 2], &mut links);
     sweep_part();
     gluons::all_lines();
+    quarks::all_lines();
 }

@@ -4,7 +4,7 @@ use quat::Mat2;
 use quat::Quat;
 use rng::Rng;
 
-const SEED: u64 = 20261115;
+pub const SEED: u64 = 20261115;
 
 // A number is 2u - 1 for a uniform u, or one of +0, -0, 1, -1.
 pub enum Set {
