@@ -295,8 +295,9 @@ uint32_t jj_new(const size_t grid_ext[3], const int32_t offsets[9], size_t t_len
 
 /* Adds a field with its densities, each one number per site, one density after the other. W being the loop at each site
  * as by jj_baryon_loop, and r an offset: grid's number for density k and r grows by the sum over all sites of W times the
- * density at r from there, at the time half the time length later; w by the sum of W, sk by that of the density. Sums are
- * taken slice by slice of equal time, each from +0. Any number of times will do; x, y, z must be the grid's. scratch may
+ * density at r from there, at the time half the time length later, rounded down; w by the sum of W. These two are summed
+ * slice by slice of equal time, each slice from +0 with x fastest, and the slices' sums added in the order of time. sk
+ * grows by one sum of the density over all sites in the order of their numbers, from +0. Any number of times will do; x, y, z must be the grid's. scratch may
  * hold anything before, and is +0 after: accepted, or refused by row 10, where nothing else changes. Refused by another
  * row, nothing changes. Rows 1, 3, 11, 13, 10. */
 uint32_t jj_add(uint64_t counts[6], const int32_t offsets[9], double sums[5], const size_t ext[4], uint32_t densities, const double *links, size_t n,
@@ -305,8 +306,8 @@ uint32_t jj_add(uint64_t counts[6], const int32_t offsets[9], double sums[5], co
 /* out = w / samples. Rows 1, 11, 13, 14, 10. */
 uint32_t jj_mean_loop(const uint64_t counts[6], const int32_t offsets[9], const double sums[5], double out[1]);
 
-/* out_list = for each offset r, the grid's number over samples, over (w / samples) (sk / samples). Row 14 where that
- * product is 0: there is no correlation to be shown then. Rows 1, 3, 11, 13, 14, 10. */
-uint32_t jj_correlation(const uint64_t counts[6], const int32_t offsets[9], const double sums[5], uint32_t density, const double *grid, size_t g, double *out_list, size_t m);
+/* list = for each offset r, the grid's number over samples, over (w / samples) (sk / samples). Row 14 where that product
+ * is 0: there is no correlation to be shown then. Refused, the list is as it was. Rows 1, 3, 11, 13, 14, 10. */
+uint32_t jj_correlation(const uint64_t counts[6], const int32_t offsets[9], const double sums[5], uint32_t density, const double *grid, size_t g, double *list, size_t m);
 
 #endif

@@ -9,16 +9,16 @@ use Rattle.rows.proofs.Laws.{if-refused, if-accepted}
 use Rattle.mat.specs.Matrix.{zeroOf}
 use Rattle.stairs.specs.Staircase.{stepsTo}
 use Rattle.paths.specs.Path.{Transporter}
-use Rattle.baryon.specs.Situations.{badCount, badStepRoom}
+use Rattle.baryon.specs.Situations.{manySteps, badStepRoom}
 use Rattle.baryon.specs.Calls.{pathAnswer}
 
-pub bad-count : {n : ℕ} → 96 < n → badCount n ≡ true
-unfolding badCount
-bad-count h = rw (lt-ltb _ _ h)
+pub many-steps : {n : ℕ} → 96 < n → manySteps n ≡ true
+unfolding manySteps
+many-steps h = rw (lt-ltb _ _ h)
 
-pub good-count : {n : ℕ} → n ≤ 96 → badCount n ≡ false
-unfolding badCount
-good-count h = rw (le-ltb _ _ h)
+pub few-steps : {n : ℕ} → n ≤ 96 → manySteps n ≡ false
+unfolding manySteps
+few-steps h = rw (le-ltb _ _ h)
 
 module _ (o : List ℤ) where
   pub bad-step-room : {room : ℕ} → room < stepsTo o → badStepRoom o room ≡ true

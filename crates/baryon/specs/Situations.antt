@@ -12,8 +12,8 @@ use Rattle.stairs.specs.Offsets.{badOffsets, badQuarks, badTime}
 use Rattle.stairs.specs.Staircase.{stepsTo}
 
 -- 11: more than 96 steps
-unfoldable pub badCount : ℕ → Bool
-badCount n = ltb 96 n
+unfoldable pub manySteps : ℕ → Bool
+manySteps n = ltb 96 n
 
 -- 11: a step axis above 3
 unfoldable pub badAxes : List Step → Bool
@@ -32,10 +32,10 @@ stairRows o room = (badOffsets o, 11) ∷ (badStepRoom o room, 12) ∷ []
 
 -- path, before and after its steps are looked at
 abbrev pub openRows : List ℕ → ℕ → ℕ → ℕ → Rows
-openRows d long n count = (badExtents d, 1) ∷ (badLinks d long, 3) ∷ (badSite d n, 4) ∷ (badCount count, 11) ∷ []
+openRows d long n count = (badExtents d, 1) ∷ (badLinks d long, 3) ∷ (badSite d n, 4) ∷ (manySteps count, 11) ∷ []
 
 abbrev pub pathRows : List ℕ → ℕ → ℕ → List Step → Rows
-pathRows d long n steps = (badExtents d, 1) ∷ (badLinks d long, 3) ∷ (badSite d n, 4) ∷ (badCount (length steps), 11) ∷ (badAxes steps, 11) ∷ []
+pathRows d long n steps = (badExtents d, 1) ∷ (badLinks d long, 3) ∷ (badSite d n, 4) ∷ (manySteps (length steps), 11) ∷ (badAxes steps, 11) ∷ []
 
 -- time_line
 abbrev pub lineRows : List ℕ → ℕ → ℕ → ℕ → Rows

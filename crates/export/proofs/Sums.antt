@@ -1,9 +1,11 @@
 -- From what the accumulator's calls promise to what a host is promised.
-use Prim.Native.Nat.{ℕ}
-use mathlib.Core.List.{List}
+use Prim.Native.Nat.{ℕ, _≤_, min}
+use mathlib.Core.List.{List, [], _∷_}
 use mathlib.Core.Path.{_≡_, refl, ap, sym, _∙_}
-use lib.Ieee.{Float}
+use native.Mathlib.Omega.{arith}
+use lib.Ieee.{Float, nan}
 use lib.IntN.{ℤ}
+use lib.ListN.{length, getD}
 use Rattle.rows.specs.Rows.{ifAccepted}
 use Rattle.rows.proofs.Laws.{if-refused, if-accepted}
 use Rattle.flux.specs.declared.FluxAccumulator.{FluxAccumulator}
@@ -11,7 +13,7 @@ use Rattle.flux.specs.declared.FluxAnswer.{FluxAnswer}
 use Rattle.flux.specs.declared.CorrelationAnswer.{CorrelationAnswer}
 use Rattle.flux.specs.Sums.{Addition, addedOf}
 use Rattle.flux.specs.Calls.{fluxAnswer, emptyAcc, zeroAcc, newRow, addRow, loopAt, NewCall, AddCall, CorrelationCall}
-use Rattle.export.specs.Accumulators.{accIn, countNumbers, sumNumbers, additionIn, NewGiven, AddGiven, CorrelationGiven}
+use Rattle.export.specs.Accumulators.{accIn, countNumbers, sumNumbers, additionIn, NewGiven, AddGiven, CorrelationGiven, AccumulatorsHandOn}
 
 pub new-given : {n : List ℕ} {o : List ℤ} {t count : ℕ} {grid after sums : List Float} {counts : List ℕ} {a : FluxAnswer} → NewCall n o t count grid a after
     → counts ≡ countNumbers (a .acc) → sums ≡ sumNumbers (a .acc) → NewGiven n o t count grid (a .refusal) after counts sums
@@ -51,3 +53,24 @@ module _ {x y : Addition} (same : x ≡ y) {a : FluxAnswer} {grid scratch : List
 
 pub correlation-given : {acc held : FluxAccumulator} {k : ℕ} {grid old new : List Float} {a : CorrelationAnswer} → held ≡ acc → CorrelationCall held k grid old a new → CorrelationGiven acc k grid old (a .refusal) new
 correlation-given same e = let f = rw same at e in record { refusal = ap (λ (b : CorrelationAnswer). b .refusal) (f .answer); array = f .list }
+
+-- ## handed on
+
+three-are : (l : List ℕ) → length l ≡ 3 → getD l 0 0 ∷ getD l 1 0 ∷ getD l 2 0 ∷ [] ≡ l
+three-are [] h = absurd (omega arith)
+three-are (a ∷ []) h = absurd (omega arith)
+three-are (a ∷ b ∷ []) h = absurd (omega arith)
+three-are (a ∷ b ∷ c ∷ []) h = refl
+three-are (a ∷ b ∷ c ∷ d ∷ l) h = absurd (omega arith)
+
+four-are : (l : List Float) → length l ≡ 4 → getD l 0 nan ∷ getD l 1 nan ∷ getD l 2 nan ∷ getD l 3 nan ∷ [] ≡ l
+four-are [] h = absurd (omega arith)
+four-are (a ∷ []) h = absurd (omega arith)
+four-are (a ∷ b ∷ []) h = absurd (omega arith)
+four-are (a ∷ b ∷ c ∷ []) h = absurd (omega arith)
+four-are (a ∷ b ∷ c ∷ d ∷ []) h = refl
+four-are (a ∷ b ∷ c ∷ d ∷ e ∷ l) h = absurd (omega arith)
+
+pub hand-on : AccumulatorsHandOn
+unfolding accIn countNumbers sumNumbers
+hand-on acc three four low = let small : min (acc .count) 0xffff_ffff ≡ acc .count = omega arith in rw (small, three-are (acc .n) three, four-are (acc .s) four)

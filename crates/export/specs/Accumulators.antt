@@ -1,10 +1,10 @@
 -- An accumulator as the three arrays in which a host hands it over, and what the calls on one leave.
-use Prim.Native.Nat.{ℕ, min}
+use Prim.Native.Nat.{ℕ, _≤_, min}
 use mathlib.Core.List.{List, [], _∷_}
 use mathlib.Core.Path.{_≡_}
 use lib.Ieee.{Float, nan}
 use lib.IntN.{ℤ}
-use lib.ListN.{getD}
+use lib.ListN.{length, getD}
 use Rattle.rows.specs.Rows.{ifAccepted}
 use Rattle.flux.specs.declared.FluxAccumulator.{FluxAccumulator}
 use Rattle.flux.specs.declared.FluxAnswer.{FluxAnswer}
@@ -61,3 +61,10 @@ MeanGiven acc r out = NumberGiven (meanRow acc) (meanLoop acc) r out
 
 abbrev pub CorrelationGiven : FluxAccumulator → ℕ → List Float → List Float → ℕ → List Float → Type 0
 CorrelationGiven acc k grid old r new = Given (correlationRow acc k grid old) (ifAccepted (correlationRow acc k grid old) (correlationList acc k grid) old) r new
+
+-- ## What the arrays hand on: the next call reads the accumulator that the last one answered
+
+abbrev pub AccumulatorsHandOn : Type 0
+AccumulatorsHandOn =
+    (acc : FluxAccumulator) → length (acc .n) ≡ 3 → length (acc .s) ≡ 4 → acc .count ≤ 0xffff_ffff
+    → accIn (countNumbers acc) (acc .offsets) (sumNumbers acc) ≡ acc

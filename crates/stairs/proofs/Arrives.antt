@@ -1,7 +1,7 @@
 -- The staircase arrives: along each axis the place is between the origin and the offset, and each step brings it one nearer.
-use Prim.Native.Nat.{ℕ, zero, suc, _+_, _<_, _≤_}
-use mathlib.Core.Bool.{Bool, true, false, _||_, true≢false}
-use mathlib.Core.List.{List, [], _∷_}
+use Prim.Native.Nat.{ℕ, zero, suc, _+_, _-_, _<_, _≤_}
+use mathlib.Core.Bool.{Bool, true, false, cond, _||_, true≢false}
+use mathlib.Core.List.{List, [], _∷_, _++_, map}
 use mathlib.Core.Path.{_≡_, refl, ap, sym, _∙_}
 use native.Mathlib.Decide.{ℕ-discrete, decLt}
 use native.Mathlib.Numerals.{add-one}
@@ -11,10 +11,13 @@ use lib.IntN.{ℤ, pos, negsuc, natAbs, _+ℤ_}
 use lib.ListN.{length, getD, set}
 use lib.Seq.{ext-getD, getD-set-same, getD-set-other}
 use borrow.Author.Tests.{lt-ltb, le-ltb}
-use Rattle.geometry.proofs.Range.{length-listed}
+use lib.Signed.{ltZ}
+use Rattle.geometry.specs.Range.{range}
+use Rattle.geometry.proofs.Range.{length-listed, listed-next}
+use Rattle.stairs.specs.declared.Step.{Step}
 use Rattle.stairs.specs.Line.{alongOf, signum}
 use Rattle.stairs.specs.Staircase.{differs, movedOf, bestOf, stepAlong, placeAt, stepAt, stepsTo, staircaseOf}
-use Rattle.stairs.specs.Claims.{StaircaseArrives}
+use Rattle.stairs.specs.Claims.{ledBy, StaircaseArrives}
 use Rattle.stairs.proofs.Best.{best-low, best-left}
 use Rattle.stairs.proofs.Climb.{long-place}
 
@@ -176,6 +179,40 @@ module _ (d : List ℤ) where
       ext-getD (pos 0) (placeAt d (stepsTo d)) d (long-place d (stepsTo d) ∙ sym three)
       (λ a l. same (placeAt d (stepsTo d)) (h .between) (h .steps) a (omega (arith, long-place d (stepsTo d))))
 
+  -- ## the steps themselves
+
+  -- a step up or down is one towards the offset, where something is left
+  toward : (p e : ℤ) → Between p e → differs p e ≡ true → cond (ltZ (pos 0) e) (pos 1) (negsuc 0) ≡ signum e
+  unfolding Between differs signum
+  toward (pos k) (pos zero) b h = absurd (let l = less k 0 b h in omega arith)
+  toward (pos k) (pos (suc m)) b h = rw (lt-ltb 0 (suc m) (omega arith))
+  toward (pos zero) (negsuc m) b h = refl
+  toward (pos (suc k)) (negsuc m) b h = absurd b
+  toward (negsuc k) (pos m) b h = absurd b
+  toward (negsuc k) (negsuc m) b h = refl
+
+  led-snoc : (p : List ℤ) (steps : List Step) (s : Step) → ledBy p (steps ++ (s ∷ [])) ≡ ledBy (ledBy p steps) (s ∷ [])
+  unfolding ledBy
+  led-snoc p [] s = refl
+  led-snoc p (x ∷ steps) s = led-snoc (set p (x .axis - 1) (alongOf p (x .axis - 1) +ℤ cond (x .forward) (pos 1) (negsuc 0))) steps s
+
+  led-step : (i : ℕ) → i < stepsTo d → ledBy (placeAt d i) (stepAt d i ∷ []) ≡ placeAt d (suc i)
+  unfolding ledBy placeAt stepAt stepAlong movedOf
+  led-step i l =
+      let h = on-the-way i (omega arith) in
+      let b = bestOf (placeAt d i) d in
+      let same : b + 1 - 1 ≡ b = omega arith in
+      rw (same, toward (alongOf (placeAt d i) b) (alongOf d b) (h .between b (best-low (placeAt d i) d)) (left-along i l))
+
+  led : (i : ℕ) → i ≤ stepsTo d → ledBy (pos 0 ∷ pos 0 ∷ pos 0 ∷ []) (map (stepAt d) (range i)) ≡ placeAt d i
+  led zero l = unfold ledBy placeAt range in refl
+  led (suc i) l =
+      rw (listed-next (stepAt d) i, led-snoc (pos 0 ∷ pos 0 ∷ pos 0 ∷ []) (map (stepAt d) (range i)) (stepAt d i), led i (omega arith)) (led-step i (omega arith))
+
+  all-lead : length d ≡ 3 → ledBy (pos 0 ∷ pos 0 ∷ pos 0 ∷ []) (staircaseOf d) ≡ d
+  unfolding staircaseOf
+  all-lead three = led (stepsTo d) (omega arith) ∙ at-last three
+
   space-axis : (i : ℕ) → (1 ≤ stepAt d i .axis) × (stepAt d i .axis ≤ 3)
   unfolding stepAt stepAlong
   space-axis i = let l = best-low (placeAt d i) d in (omega arith, omega arith)
@@ -185,4 +222,4 @@ module _ (d : List ℤ) where
   as-many = length-listed (stepAt d) (stepsTo d)
 
 pub staircase-arrives : StaircaseArrives
-staircase-arrives = record { count = as-many; axes = space-axis; left = left-along; arrives = at-last }
+staircase-arrives = record { count = as-many; axes = space-axis; left = left-along; arrives = all-lead }
