@@ -1,5 +1,5 @@
 //! Staircases, paths, loops and additions, on a field of the group, with a quark on each axis and a
-//! time length of 2.
+//! time length of 2; loops also with quarks nine steps away.
 //!
 //! The library's `baryon_loop` is handed offsets and works out their staircases in each call, where the
 //! reference is handed paths. So it has two rows: in one the reference makes its three staircases in
@@ -23,8 +23,11 @@ const EXT: Four = [8; 4];
 const SITES: usize = 4096;
 const CELLS: usize = 512;
 
-const QUARKS: [Offset; 3] = [[1, 0, 0], [0, 1, 0], [0, 0, 1]];
-const OFFSETS: Offsets = [1, 0, 0, 0, 1, 0, 0, 0, 1];
+/// The three quarks' offsets.
+type Quarks = [Offset; 3];
+
+const QUARKS: Quarks = [[1, 0, 0], [0, 1, 0], [0, 0, 1]];
+const NINE_STEPS: Quarks = [[4, -3, 2], [-2, 4, 3], [3, 2, -4]];
 const LENGTH: usize = 2;
 
 /// Of the longest staircases, and how many of them one pass has.
@@ -43,6 +46,8 @@ struct Field {
     lattice: Su3Lattice,
     steps: Steps,
     bytes: Vec<Cell<u8>>,
+    quarks: Quarks,
+    offsets: Offsets,
     paths: [Steps; 3],
 }
 
@@ -52,7 +57,7 @@ type Pass = fn(&Field) -> u64;
 pub fn rows() -> Vec<Row> {
     let group = &KINDS[fields::number_of("group")];
     let links = fields::links(group, EXT, 1);
-    let field = Field::new(&links);
+    let [field, far] = [QUARKS, NINE_STEPS].map(|quarks| Field::new(&links, quarks));
     let [one, two] = [1, 2].map(|count| Adding::new(&links, count));
     let made: [Pass; 2] = [loops, rust_loops];
     let given: [Pass; 2] = [loops, rust_loops_on_paths];
@@ -62,6 +67,8 @@ pub fn rows() -> Vec<Row> {
         field.row("time_line of 8, 8^4", [lines, rust_lines]),
         field.row("baryon_loop, 8^4 (Rust: staircases in each call)", made),
         field.row("baryon_loop, 8^4 (Rust: paths from before)", given),
+        far.row("baryon_loop, 9 steps (Rust: staircases in each call)", made),
+        far.row("baryon_loop, 9 steps (Rust: paths from before)", given),
         one.row("add, one density, 8^4, a site"),
         two.row("add, two densities, 8^4, a site"),
     ]
@@ -83,7 +90,7 @@ fn rust_staircase(offset: Offset) -> Steps {
 }
 
 impl Field {
-    fn new(links: &[f64]) -> Self {
+    fn new(links: &[f64], quarks: Quarks) -> Self {
         let steps = staircase(PATH);
         let byte = |&(axis, forward): &(usize, bool)| 2 * axis as u8 + u8::from(forward);
         Self {
@@ -91,13 +98,19 @@ impl Field {
             lattice: flat::lattice(EXT, links),
             bytes: steps.iter().map(byte).map(Cell::new).collect(),
             steps,
-            paths: QUARKS.map(staircase),
+            quarks,
+            offsets: flat_offsets(quarks),
+            paths: quarks.map(staircase),
         }
     }
 
     fn row(&self, call: &'static str, sides: [Pass; 2]) -> Row {
         Row::race(call, SITES, sides, |pass| pass(self))
     }
+}
+
+fn flat_offsets(quarks: Quarks) -> Offsets {
+    std::array::from_fn(|at| quarks[at / 3][at % 3])
 }
 
 fn paths(field: &Field) -> u64 {
@@ -140,14 +153,14 @@ fn rust_line(lattice: &Su3Lattice, site: usize, length: usize) -> (Su3, usize) {
 
 fn loops(field: &Field) -> u64 {
     (0..SITES).fold(0, |sum, site| {
-        let (_, [out]) = face::baryon_loop(&EXT, site, &OFFSETS, LENGTH, &field.lent);
+        let (_, [out]) = face::baryon_loop(&EXT, site, &field.offsets, LENGTH, &field.lent);
         sum ^ out.to_bits()
     })
 }
 
 fn rust_loops(field: &Field) -> u64 {
     (0..SITES).fold(0, |sum, site| {
-        let paths = QUARKS.map(rust_staircase);
+        let paths = black_box(field.quarks).map(rust_staircase);
         sum ^ rust_loop(&field.lattice, site, &paths).to_bits()
     })
 }
@@ -183,7 +196,8 @@ impl Adding {
         let density = whole.field_strength().action_density();
         let grid = vec![Cell::new(0.0); count * CELLS];
         let n = [EXT[1], EXT[2], EXT[3]];
-        let ((_, counts), sums) = face::new_accumulator(&n, &OFFSETS, LENGTH, count as u32, &grid);
+        let offsets = flat_offsets(QUARKS);
+        let ((_, counts), sums) = face::new_accumulator(&n, &offsets, LENGTH, count as u32, &grid);
         Self {
             count,
             lent: links.iter().copied().map(Cell::new).collect(),
@@ -192,7 +206,7 @@ impl Adding {
             grid,
             to: Cell::new(Accumulator {
                 counts,
-                offsets: OFFSETS,
+                offsets,
                 sums,
             }),
             own: whole::FluxAccumulator::new(n, QUARKS, LENGTH, count).into(),
