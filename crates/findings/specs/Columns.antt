@@ -1,0 +1,66 @@
+-- The program: its input's bytes are the extents, its output the findings, or the refusal.
+use Prim.Native.Nat.{ℕ}
+use mathlib.Core.Bool.{Bool, true, not}
+use mathlib.Core.List.{List, [], _∷_, _++_}
+use mathlib.Core.Path.{_≡_}
+use lib.Dec.{eqb, ltb}
+use lib.Ieee.Scale.{finite}
+use lib.ListN.{length, drop}
+use Rattle.rows.specs.Rows.{firstRow, ifAccepted}
+use Rattle.geometry.specs.Radix.{volume}
+use Rattle.lattice.specs.Rows.{Rows}
+use Rattle.lattice.specs.Situations.{badExtents}
+use Rattle.ascii.specs.Lines.{ascii, decimalOf, bitsOf, lineOf}
+use Rattle.findings.specs.declared.Findings.{Findings}
+use Rattle.findings.specs.declared.field.Frames.{Frames}
+use Rattle.findings.specs.Findings.{findingsOf}
+
+-- 15: not four bytes
+unfoldable pub badInput : List ℕ → Bool
+badInput bytes = not (eqb (length bytes) 4)
+
+-- 15: more than 64 sites
+unfoldable pub badSites : List ℕ → Bool
+badSites d = ltb 64 (volume d)
+
+abbrev pub inputRows : List ℕ → Rows
+inputRows bytes = (badInput bytes, 15) ∷ (badExtents bytes, 1) ∷ (badSites bytes, 15) ∷ []
+
+-- the columns: name and finding
+unfoldable pub fieldLines : Findings → List ℕ
+fieldLines f =
+    lineOf (ascii "sites") (decimalOf (f .sites))
+    ++ lineOf (ascii "plaquette") (bitsOf (f .plaquette))
+    ++ lineOf (ascii "action") (bitsOf (f .action))
+    ++ lineOf (ascii "loop-re") (bitsOf (f .re))
+    ++ lineOf (ascii "loop-im") (bitsOf (f .im))
+    ++ lineOf (ascii "baryon") (bitsOf (f .baryon))
+
+unfoldable pub frameLines : Frames → List ℕ
+frameLines f =
+    lineOf (ascii "frame-3") (decimalOf (f .frame3))
+    ++ lineOf (ascii "frame-0") (decimalOf (f .frame0))
+    ++ lineOf (ascii "frame-9") (decimalOf (f .frame9))
+    ++ lineOf (ascii "stuck") (decimalOf (f .stuck))
+
+abbrev pub linesOf : Findings → List ℕ
+linesOf f = fieldLines f ++ frameLines (f .frames)
+
+-- a refusal is one line
+unfoldable pub columnsOf : List ℕ → List ℕ
+columnsOf bytes =
+    let row = firstRow (inputRows bytes) in
+    ifAccepted row (linesOf (findingsOf bytes)) (lineOf (ascii "refused") (decimalOf row))
+
+-- the answer, how many bytes there are; and the list, with these at its front and later places as they were
+pub record ColumnsCall (bytes old : List ℕ) (r : ℕ) (new : List ℕ) : Type 0 where
+  pub count : r ≡ length (columnsOf bytes)
+  pub text : new ≡ columnsOf bytes ++ drop r old
+
+-- numbers whose bits can be printed
+pub record Finite (f : Findings) : Type 0 where
+  pub plaquette : finite (f .plaquette) ≡ true
+  pub action : finite (f .action) ≡ true
+  pub re : finite (f .re) ≡ true
+  pub im : finite (f .im) ≡ true
+  pub baryon : finite (f .baryon) ≡ true
