@@ -53,7 +53,8 @@ pub fn compare(tally: &mut Tally) {
     }
 }
 
-fn crossed(sides: &[usize]) -> impl Iterator<Item = Four> {
+/// All extents made of these, t fastest.
+pub fn crossed(sides: &[usize]) -> impl Iterator<Item = Four> {
     let n = sides.len();
     (0..n.pow(4)).map(move |i| [i, i / n, i / n.pow(2), i / n.pow(3)].map(|j| sides[j % n]))
 }

@@ -1,13 +1,14 @@
 //! Compares each call of the static library with the unchanged Rust on the same inputs, bit by bit,
 //! and then times both. The status is 1 where any answer differs.
 //!
-//! With the word `sample` it prints the reference's answers for a replay without Rust, and nothing
-//! else.
+//! With the word `sample` it prints the reference's answers for a replay without Rust, with `columns`
+//! what the cabinet prints by the reference, and nothing else.
 
 #![deny(unsafe_code)]
 
 mod baryon;
 mod calls;
+mod columns;
 mod face;
 mod fields;
 mod flat;
@@ -37,7 +38,7 @@ use tally::Tally;
 /// A group of calls: its name, and what compares all its calls.
 type Group = (&'static str, fn(&mut Tally));
 
-const GROUPS: [Group; 11] = [
+const GROUPS: [Group; 12] = [
     ("words", words::compare),
     ("root", root::compare),
     ("generator", generator::compare),
@@ -49,20 +50,24 @@ const GROUPS: [Group; 11] = [
     ("baryon", baryon::compare),
     ("refusals", refusals::compare),
     ("replay", replay::compare),
+    ("columns", columns::compare),
 ];
 
 fn main() -> ExitCode {
     match std::env::args().nth(1).as_deref() {
         None => compare(),
-        Some("sample") => {
-            print!("{}", sample::lines());
-            ExitCode::SUCCESS
-        }
+        Some("sample") => print(&sample::lines()),
+        Some("columns") => print(&columns::listing()),
         Some(other) => {
-            eprintln!("compare: {other}: the only word that I know is sample");
+            eprintln!("compare: {other}: the only words that I know are sample and columns");
             ExitCode::from(2)
         }
     }
+}
+
+fn print(text: &str) -> ExitCode {
+    print!("{text}");
+    ExitCode::SUCCESS
 }
 
 fn compare() -> ExitCode {

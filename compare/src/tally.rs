@@ -66,6 +66,16 @@ impl Tally {
         }
     }
 
+    /// Holds what a program wrote for an input to the reference's text.
+    pub fn check_text(&mut self, program: &'static str, input: &str, wrote: &str, rust: &str) {
+        self.compared += 1;
+        if wrote != rust {
+            self.mismatch(program, || {
+                format!(" ({input}): wrote {wrote:?}, Rust {rust:?}")
+            });
+        }
+    }
+
     #[cold]
     fn mismatch(&mut self, what: &'static str, seen: impl FnOnce() -> String) {
         let count = self.mismatches.entry(what).or_default();

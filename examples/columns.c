@@ -1,0 +1,137 @@
+/* What the cabinet prints, through the C face of Jamjune: the extents t, x, y, z come as four bytes on standard input,
+ * and the findings on a cold field go to standard output, a name and a value to a line. Where the input is refused, the
+ * one line is "refused" and the number of the row. At the repository's root, once `rt staticlib export` has written
+ * libexport.a:
+ *
+ *     cc -std=c99 -Wall -Wextra -Wpedantic -Werror -Iinclude examples/columns.c target/staticlib/libexport.a -o target/columns-c
+ *     printf '\2\2\2\2' | target/columns-c
+ *
+ * Status 0: the lines were written, a refusal's too; 1: standard input or output failed. */
+#include <inttypes.h>
+#include <stdio.h>
+#include <string.h>
+
+#include "jamjune.h"
+
+enum {
+    INPUT_ROW = 15, /* this program's own: not four bytes, or more sites than it has room for */
+    MOST_SITES = 64,
+    NUMBERS = 72, /* of the links, for each site */
+    FRAMES = 3,
+    VISITED = 6, /* places in a job */
+    STUCK = 7
+};
+
+static const double coupling = 6.0;
+static const uint64_t seed = 0; /* a cold field and overrelaxation draw nothing: any will do */
+static const int32_t quarks[9] = {1, 0, 0, 0, 1, 0, 0, 0, 1};
+static const size_t time_length = 2;
+static const size_t sizes[FRAMES] = {3, 0, 9};
+static const size_t frame = 8; /* as many sites as the time between two pictures allows */
+
+/* The library keeps no memory and asks for none: what a call works on is lent to it. */
+static double links[NUMBERS * MOST_SITES];
+
+struct findings {
+    size_t sites;
+    double plaquette, action, loop[2], baryon;
+    uint64_t visited[FRAMES], stuck;
+};
+
+/* Every function below that returns uint32_t returns a row, 0 for none, as the library's calls do. */
+
+/* Reads to the end, however much there is: a fifth byte may come late. */
+static uint32_t read_extents(size_t ext[4])
+{
+    size_t count = 0;
+    int byte;
+    while ((byte = getchar()) != EOF) {
+        if (count < 4)
+            ext[count] = (size_t)byte;
+        if (count < 5)
+            count++;
+    }
+    return count == 4 ? 0 : INPUT_ROW;
+}
+
+static uint32_t measure(const size_t ext[4], size_t n, struct findings *f)
+{
+    uint32_t row;
+    if ((row = jj_average_plaquette(ext, links, n, &f->plaquette)) != 0
+        || (row = jj_action(ext, coupling, links, n, &f->action)) != 0
+        || (row = jj_polyakov_loop(ext, links, n, f->loop)) != 0)
+        return row;
+    return jj_baryon_loop(ext, 0, quarks, time_length, links, n, &f->baryon);
+}
+
+/* One half-sweep, direction 0, parity 0. Nothing else may write to the links before it is finished. */
+static uint32_t half_sweep(const size_t ext[4], size_t n, struct findings *f)
+{
+    uint64_t pass[1] = {0}; /* of the field: every opening moves it on, so keep it from one half-sweep to the next */
+    uint64_t job[9];
+    uint32_t row, finished[1];
+    if ((row = jj_open_overrelax(ext, coupling, seed, pass, 0, 0, job)) != 0)
+        return row;
+    for (int i = 0; i < FRAMES; i++) {
+        if ((row = jj_frame_overrelax(job, sizes[i], links, n)) != 0)
+            return row;
+        f->visited[i] = job[VISITED];
+    }
+    f->stuck = job[STUCK];
+
+    /* To its end, as a host does it: a frame, a picture, a frame. The last frame may have fewer sites left. */
+    while ((row = jj_finished(job, finished)) == 0 && !finished[0]) {
+        if ((row = jj_frame_overrelax(job, frame, links, n)) != 0)
+            return row;
+    }
+    return row;
+}
+
+static uint32_t find(struct findings *f)
+{
+    size_t ext[4], n;
+    uint32_t row;
+    if ((row = read_extents(ext)) != 0 || (row = jj_n_sites(ext, &f->sites)) != 0)
+        return row;
+    if (f->sites > MOST_SITES)
+        return INPUT_ROW;
+    n = NUMBERS * f->sites;
+    if ((row = jj_cold(ext, coupling, seed, links, n)) != 0 || (row = measure(ext, n, f)) != 0)
+        return row;
+    return half_sweep(ext, n, f);
+}
+
+static void print_bits(const char *name, double x)
+{
+    uint64_t bits;
+    memcpy(&bits, &x, sizeof bits);
+    printf("%s %016" PRIx64 "\n", name, bits);
+}
+
+static void print(const struct findings *f)
+{
+    printf("sites %zu\n", f->sites);
+    print_bits("plaquette", f->plaquette);
+    print_bits("action", f->action);
+    print_bits("loop-re", f->loop[0]);
+    print_bits("loop-im", f->loop[1]);
+    print_bits("baryon", f->baryon);
+    for (int i = 0; i < FRAMES; i++)
+        printf("frame-%zu %" PRIu64 "\n", sizes[i], f->visited[i]);
+    printf("stuck %" PRIu64 "\n", f->stuck);
+}
+
+int main(void)
+{
+    static struct findings findings;
+    uint32_t row = find(&findings); /* all of it before the first line: a refusal stands alone */
+    if (ferror(stdin)) {
+        fputs("columns: standard input failed\n", stderr);
+        return 1;
+    }
+    if (row != 0)
+        printf("refused %" PRIu32 "\n", row);
+    else
+        print(&findings);
+    return fflush(stdout) == 0 && !ferror(stdout) ? 0 : 1;
+}
