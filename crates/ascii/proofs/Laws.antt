@@ -50,6 +50,12 @@ then {at} {mid} {end} {xs} {ys} {old} fits first second = record {
   list = second .list ∙ rw (first .list, first .next) (laid-join at xs ys old fits);
 }
 
+-- ## laid at the front
+
+pub at-front : (bytes old : List ℕ) {r : ℕ} {new : List ℕ} → Laid 0 bytes old r new → (r ≡ length bytes) × (new ≡ bytes ++ drop r old)
+unfolding laidAt
+at-front bytes old laid = let e : 0 + length bytes ≡ length bytes = omega arith in (laid .next ∙ e, rw (laid .next) (laid .list))
+
 -- ## a line
 
 pub length-line : (name value : List ℕ) → length (lineOf name value) ≡ length name + length value + 2

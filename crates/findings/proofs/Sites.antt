@@ -2,7 +2,7 @@
 use Prim.Native.Nat.{ℕ, zero, suc, _+_, _*_, _/_, _<_, _≤_}
 use mathlib.Core.List.{List, [], _∷_}
 use mathlib.Core.Path.{_≡_, refl, sym, subst, _∙_}
-use native.Mathlib.Nat.{mul-assoc, mul-comm, mul-left-comm, mul-pos, mul-le-mul, le-refl}
+use native.Mathlib.Nat.{mul-assoc, mul-left-comm, mul-pos, mul-le-mul, le-refl}
 use native.Mathlib.Omega.{arith}
 use lib.ListN.{length, getD}
 use Rattle.geometry.specs.Radix.{volume}
@@ -22,7 +22,7 @@ multiples P k n (suc (suc (suc (suc (suc m))))) e some few a b c f = absurd (ome
 
 -- an even factor more
 doubled : (e a k x y : ℕ) → e ≡ 2 * a → x ≡ k * y → e * x ≡ 2 * k * (a * y)
-doubled e a k x y f g = rw (f, g) (simp (mul-assoc, mul-comm, mul-left-comm))
+doubled e a k x y f g = rw (f, g) (simp (mul-assoc, mul-left-comm))
 
 time-space : (d : List ℕ) → length d ≡ 4 → volume d ≡ getD d 0 0 * volume (space d)
 unfolding volume

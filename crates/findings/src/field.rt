@@ -1,10 +1,8 @@
 use crate::Findings;
 use lattice::Plan;
-use rows::Number;
 ghost use Prim.Native.Nat.{_*_};
 ghost use mathlib.Core.Path.{_≡_};
 ghost use lib.ListN.{length};
-ghost use Rattle.rows.specs.Answers.{numberValue};
 ghost use Rattle.geometry.specs.Radix.{volume};
 ghost use Rattle.findings.specs.Findings.{Small, framesOf, findingsOf};
 
@@ -18,15 +16,6 @@ pub struct Frames {
 
 // One step along x, y and z: one quark each.
 const QUARKS: [i32; 9] = [1, 0, 0, 0, 1, 0, 0, 0, 1];
-
-fn value(x: Number) -> f64
-    ensures { λ r. ⌜ r ≡ numberValue x ⌝ }
-{
-    match x {
-        Number::Value(v) => v,
-        Number::Refused(row) => 0.0,
-    }
-}
 
 // A half-sweep of direction 0 and parity 0, not run to its end.
 fn half_sweep(plan: Plan, links: &mut [f64]) -> Frames
@@ -57,10 +46,10 @@ pub fn measure(extents: [usize; 4], sites: usize, links: &mut [f64]) -> Findings
 {
     let started = lattice::cold(extents, 6.0, 0, links);
     let plan = started.plan;
-    let plaquette = value(lattice::average_plaquette(extents, links));
-    let action = value(lattice::action(plan, links));
+    let plaquette = arrays::number_value(lattice::average_plaquette(extents, links));
+    let action = arrays::number_value(lattice::action(plan, links));
     let polyakov = lattice::polyakov_loop(extents, links);
-    let baryon = value(baryon::baryon_loop(extents, 0, QUARKS, 2, links));
+    let baryon = arrays::number_value(baryon::baryon_loop(extents, 0, QUARKS, 2, links));
     let frames = half_sweep(plan, links);
     Findings {
         sites,

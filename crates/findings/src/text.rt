@@ -9,6 +9,7 @@ ghost use lib.ListN.{length, drop};
 ghost use Rattle.rows.specs.Rows.{firstRow};
 ghost use Rattle.rows.specs.Answers.{IsCount};
 ghost use Rattle.geometry.specs.Radix.{volume};
+ghost use Rattle.io.specs.Counts.{Counts};
 ghost use Rattle.ascii.specs.Laid.{Laid};
 ghost use Rattle.findings.specs.Findings.{Small, findingsOf};
 ghost use Rattle.findings.specs.Columns.{Finite, inputRows, fieldLines, frameLines, linesOf, ColumnsCall};
@@ -85,21 +86,29 @@ fn put_findings(text: &mut [u8], f: Findings) -> usize
     put_frames(text, at, frames)
 }
 
+// Room for the links of 64 sites.
+fn space() -> [f64; 4608]
+    ensures { λ r. ⌜ 4608 ≡ length r ⌝ }
+{
+    [0.0; 4608]
+}
+
 // The findings on a cold field, on links of its own.
 fn found(extents: [usize; 4], sites: usize) -> Findings
     requires { ⌜ Small extents ⌝ }
     requires { ⌜ sites ≡ volume extents ⌝ }
     ensures { λ r. ⌜ r ≡ findingsOf extents ⌝ }
 {
-    let mut space = [0.0; 4608];
+    let mut links = space();
     let n = 72 * sites;
-    measure(extents, sites, &mut space[..n])
+    measure(extents, sites, &mut links[..n])
 }
 
 // The program's text for the bytes of its input: the columns, or the line that refuses it. It goes to
 // the front of the list, later places stay; the answer is how many bytes it has.
 pub fn columns(input: &[u8], text: &mut [u8; 320]) -> usize
     ensures { λ r. ⌜ ColumnsCall (now (input .entry)) (now (text .entry)) r (now (text .exit)) ⌝ }
+    ensures { λ r. ⌜ Counts r (now (text .exit)) ⌝ }
 {
     let answer = sites_of(input);
     match answer {

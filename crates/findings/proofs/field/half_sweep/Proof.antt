@@ -1,4 +1,6 @@
 use borrow.Author.Needs.{needs}
+use Rattle.sweep.specs.RunOfFrames.{run}
+use Rattle.findings.specs.Findings.{framesOf}
 use Rattle.findings.proofs.field.half_sweep.Statement.{statement}
 use Rattle.findings.proofs.field.half_sweep.Tie as tie
 use Rattle.findings.proofs.field.half_sweep.Reads as reads
@@ -28,7 +30,8 @@ same-length c = search needs
 
 -- src/field.rt:32:1
 returns : tie.Need-returns
-returns c = ?
+unfolding framesOf run
+returns c = rw (c .before .before .before .frame-overrelax3 .ensures .answer, c .before .before .before .before .before .before .before .before .frame-overrelax2 .ensures .links, c .before .before .before .before .before .before .before .before .frame-overrelax2 .ensures .answer, c .before .before .before .before .before .before .before .before .before .before .before .before .before .frame-overrelax .ensures .links, c .before .before .before .before .before .before .before .before .before .before .before .before .before .frame-overrelax .ensures .answer, c .before .before .before .before .before .before .before .before .before .before .before .before .before .before .before .before .open-overrelax .ensures)
 
 pub half-sweep-spec : {M : Type 1} → statement M
 half-sweep-spec =

@@ -1,4 +1,9 @@
 use borrow.Author.Needs.{needs}
+use mathlib.Core.Path.{_≡_, _∙_}
+use native.Mathlib.Omega.{arith}
+use lib.ListN.{length}
+use Rattle.findings.proofs.Claims.{finite-findings}
+use Rattle.findings.proofs.Input.{taken-by, refused-by, lines-printed, refusal-printed, counts}
 use Rattle.findings.proofs.text.columns.Statement.{statement}
 use Rattle.findings.proofs.text.columns.Tie as tie
 use Rattle.findings.proofs.text.columns.Reads as reads
@@ -19,15 +24,18 @@ enum-known-answer c = search needs
 
 -- src/text.rt:106:57
 extents-of-requires : tie.Need-extents-of-requires
-extents-of-requires c κs = ?
+extents-of-requires c κs = taken-by _ (c .before .before .before .before .sites-of .ensures) (c .before .before .answer .given .1) .0 .four
 
 -- src/text.rt:106:51
 found-requires : tie.Need-found-requires
-found-requires c κs = ?
+found-requires c κs = let t = taken-by _ (c .before .before .before .before .before .sites-of .ensures) (c .before .before .before .answer .given .1) in rw (c .extents-of .ensures) (t .0 .small, t .1)
 
 -- src/text.rt:106:32
 put-findings-requires : tie.Need-put-findings-requires
-put-findings-requires c κs = ?
+put-findings-requires c κs =
+    let t = taken-by _ (c .before .before .before .before .before .before .sites-of .ensures) (c .before .before .before .before .answer .given .1) in
+    let long : length (c .before .before .before .before .before .before .before .before .args .text .now) ≡ 320 = search needs in
+    (omega arith, rw (c .found .ensures, c .before .extents-of .ensures) (finite-findings _ (t .0 .small)))
 
 -- src/text.rt:107:24
 enum-known-answer-2 : tie.Need-enum-known-answer-2
@@ -47,11 +55,11 @@ count-line-requires c κs = search needs
 
 -- src/text.rt:101:1
 returns : tie.Need-returns
-returns c = ?
+returns c = let t = taken-by _ (c .before .before .before .before .before .before .before .sites-of .ensures) (c .before .before .before .before .before .answer .given .1) in counts (lines-printed _ _ (t .2) (c .before .found .ensures ∙ rw (c .before .before .extents-of .ensures)) (c .put-findings .ensures))
 
 -- src/text.rt:101:1
 returns-2 : tie.Need-returns-2
-returns-2 c = ?
+returns-2 c = counts (refusal-printed _ _ (refused-by _ (c .before .before .before .before .before .before .sites-of .ensures) (c .before .before .before .before .answer2 .given .1)) (c .count-line .ensures .0))
 
 pub columns-spec : {M : Type 1} → statement M
 columns-spec =

@@ -1,4 +1,7 @@
 use borrow.Author.Needs.{needs}
+use mathlib.Core.Path.{_≡_, sym}
+use lib.ListN.{length}
+use Rattle.geometry.proofs.Shape.{four-are}
 use Rattle.findings.proofs.text.extents_of.Statement.{statement}
 use Rattle.findings.proofs.text.extents_of.Tie as tie
 use Rattle.findings.proofs.text.extents_of.Reads as reads
@@ -39,7 +42,9 @@ wide-requires-4 c κs = search needs
 
 -- src/text.rt:23:1
 returns : tie.Need-returns
-returns c = ?
+returns c =
+    let four : length (c .before .before .before .before .before .before .before .before .before .args .input .now) ≡ 4 = c .before .before .before .before .before .before .before .before .before .pre in
+    rw (c .before .before .before .before .before .before .wide .ensures, c .before .before .before .before .wide2 .ensures, c .before .before .wide3 .ensures, c .wide4 .ensures) (sym (four-are _ four))
 
 pub extents-of-spec : {M : Type 1} → statement M
 extents-of-spec =

@@ -1,4 +1,6 @@
 use borrow.Author.Needs.{needs}
+use native.Mathlib.Omega.{arith}
+use Rattle.ascii.proofs.Laws.{then}
 use Rattle.findings.proofs.text.put_findings.Statement.{statement}
 use Rattle.findings.proofs.text.put_findings.Tie as tie
 use Rattle.findings.proofs.text.put_findings.Reads as reads
@@ -20,7 +22,7 @@ same-length c = search needs
 
 -- src/text.rt:78:1
 returns : tie.Need-returns
-returns c = ?
+returns c = then (omega arith) (c .before .before .before .before .before .before .before .put-field .ensures .0) (c .before .before .put-frames .ensures)
 
 pub put-findings-spec : {M : Type 1} → statement M
 put-findings-spec = tie.close (tie.spec put-field-requires put-frames-requires same-length returns)

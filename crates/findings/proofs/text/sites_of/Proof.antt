@@ -1,4 +1,5 @@
 use borrow.Author.Needs.{needs}
+use Rattle.findings.proofs.Input.{other-count, too-many, few-enough, bad-extents}
 use Rattle.findings.proofs.text.sites_of.Statement.{statement}
 use Rattle.findings.proofs.text.sites_of.Tie as tie
 use Rattle.findings.proofs.text.sites_of.Reads as reads
@@ -8,7 +9,7 @@ use Rattle.lattice.proofs.n_sites.Reads as n-sites-reads
 
 -- src/text.rt:40:9
 returns : tie.Need-returns
-returns c = ?
+returns c = other-count _ (c .if1 .taken)
 
 -- src/text.rt:42:35
 extents-of-requires : tie.Need-extents-of-requires
@@ -24,7 +25,7 @@ enum-known-answer c = search needs
 
 -- src/text.rt:46:17
 returns-2 : tie.Need-returns-2
-returns-2 c = ?
+returns-2 c = too-many _ (c .before .before .before .before .before .before .if1 .left) (rw (c .before .before .answer .given .1, c .before .before .before .before .before .extents-of .ensures) at (c .before .before .before .before .n-sites .ensures)) (c .if2 .taken)
 
 -- src/text.rt:50:24
 enum-known-answer-2 : tie.Need-enum-known-answer-2
@@ -32,11 +33,11 @@ enum-known-answer-2 c = search needs
 
 -- src/text.rt:36:1
 returns-3 : tie.Need-returns-3
-returns-3 c = ?
+returns-3 c = few-enough _ (c .before .before .before .before .before .before .if1 .left) (rw (c .before .before .answer .given .1, c .before .before .before .before .before .extents-of .ensures) at (c .before .before .before .before .n-sites .ensures)) (c .if2 .left)
 
 -- src/text.rt:36:1
 returns-4 : tie.Need-returns-4
-returns-4 c = ?
+returns-4 c = bad-extents _ (c .before .before .before .before .before .if1 .left) (rw (c .before .answer2 .given .1, c .before .before .before .before .extents-of .ensures) at (c .before .before .before .n-sites .ensures))
 
 pub sites-of-spec : {M : Type 1} → statement M
 sites-of-spec =
