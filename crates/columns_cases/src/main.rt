@@ -1,175 +1,62 @@
 // The program's text for each of many inputs, after the input itself: every one that is accepted, and
 // refused ones. The stored lines are the Rust's (docs/DECISIONS.md).
 
-// All extents with at most 64 sites, t fastest.
-const ACCEPTED: [u8; 76] = [
-    2,
-    2,
-    2,
-    2,
-    4,
-    2,
-    2,
-    2,
-    6,
-    2,
-    2,
-    2,
-    8,
-    2,
-    2,
-    2,
-    2,
-    4,
-    2,
-    2,
-    4,
-    4,
-    2,
-    2,
-    2,
-    6,
-    2,
-    2,
-    2,
-    8,
-    2,
-    2,
-    2,
-    2,
-    4,
-    2,
-    4,
-    2,
-    4,
-    2,
-    2,
-    4,
-    4,
-    2,
-    2,
-    2,
-    6,
-    2,
-    2,
-    2,
-    8,
-    2,
-    2,
-    2,
-    2,
-    4,
-    4,
-    2,
-    2,
-    4,
-    2,
-    4,
-    2,
-    4,
-    2,
-    2,
-    4,
-    4,
-    2,
-    2,
-    2,
-    6,
-    2,
-    2,
-    2,
-    8,
+// Four bytes t, x, y, z to a word: all extents with at most 64 sites, t fastest.
+const ACCEPTED: [u32; 19] = [
+    0x02_02_02_02,
+    0x04_02_02_02,
+    0x06_02_02_02,
+    0x08_02_02_02,
+    0x02_04_02_02,
+    0x04_04_02_02,
+    0x02_06_02_02,
+    0x02_08_02_02,
+    0x02_02_04_02,
+    0x04_02_04_02,
+    0x02_04_04_02,
+    0x02_02_06_02,
+    0x02_02_08_02,
+    0x02_02_02_04,
+    0x04_02_02_04,
+    0x02_04_02_04,
+    0x02_02_04_04,
+    0x02_02_02_06,
+    0x02_02_02_08,
 ];
 
 // Too many sites; then an extent that is odd, too small or too large, at each place.
-const REFUSED: [u8; 80] = [
-    4,
-    4,
-    4,
-    4,
-    16,
-    2,
-    2,
-    4,
-    10,
-    2,
-    2,
-    2,
-    2,
-    4,
-    4,
-    4,
-    16,
-    16,
-    16,
-    16,
-    3,
-    2,
-    2,
-    2,
-    0,
-    2,
-    2,
-    2,
-    18,
-    2,
-    2,
-    2,
-    2,
-    2,
-    2,
-    17,
-    255,
-    255,
-    255,
-    255,
-    3,
-    3,
-    3,
-    3,
-    1,
-    2,
-    2,
-    2,
-    2,
-    3,
-    2,
-    2,
-    2,
-    2,
-    18,
-    2,
-    2,
-    2,
-    2,
-    0,
-    0,
-    0,
-    0,
-    0,
-    130,
-    2,
-    2,
-    2,
-    15,
-    16,
-    16,
-    16,
-    16,
-    16,
-    16,
-    18,
-    50,
-    50,
-    50,
-    50,
+const REFUSED: [u32; 20] = [
+    0x04_04_04_04,
+    0x10_02_02_04,
+    0x0a_02_02_02,
+    0x02_04_04_04,
+    0x10_10_10_10,
+    0x03_02_02_02,
+    0x00_02_02_02,
+    0x12_02_02_02,
+    0x02_02_02_11,
+    0xff_ff_ff_ff,
+    0x03_03_03_03,
+    0x01_02_02_02,
+    0x02_03_02_02,
+    0x02_02_12_02,
+    0x02_02_02_00,
+    0x00_00_00_00,
+    0x82_02_02_02,
+    0x0f_10_10_10,
+    0x10_10_10_12,
+    0x32_32_32_32,
 ];
+
+fn word(byte: u8) -> u64 {
+    byte as u64
+}
 
 fn case(input: &[u8]) {
     io::write_all(1, b"input:");
     for i in 0..input.len() {
         io::write_all(1, b" ");
-        io::print_decimal(1, input[i] as u64);
+        io::print_decimal(1, word(input[i]));
     }
     io::write_all(1, b"\n");
     let mut text = [0u8; 320];
@@ -177,26 +64,24 @@ fn case(input: &[u8]) {
     io::write_all(1, &text[..k]);
 }
 
-fn accepted(bytes: &[u8; 76]) {
-    for i in 0..19usize {
-        let at = 4 * i;
-        case(&[bytes[at], bytes[at + 1], bytes[at + 2], bytes[at + 3]]);
-    }
-}
-
-fn refused(bytes: &[u8; 80]) {
-    for i in 0..20usize {
-        let at = 4 * i;
-        case(&[bytes[at], bytes[at + 1], bytes[at + 2], bytes[at + 3]]);
-    }
+fn four(w: u32) {
+    case(
+        &[
+            (w / 0x1_00_00_00) as u8,
+            (w / 0x1_00_00 % 0x1_00) as u8,
+            (w / 0x1_00 % 0x1_00) as u8,
+            (w % 0x1_00) as u8,
+        ],
+    );
 }
 
 // Not four bytes: with four that fit, and where an extent is bad too.
 fn miscounted() {
     let twos = [2u8; 8];
-    for n in 0..4usize {
-        case(&twos[..n]);
-    }
+    case(&twos[..0]);
+    case(&twos[..1]);
+    case(&twos[..2]);
+    case(&twos[..3]);
     case(&twos[..5]);
     case(&[2, 2, 2, 2, 0]);
     case(&[2, 2, 2, 2, 10]);
@@ -207,7 +92,13 @@ fn miscounted() {
 }
 
 fn main() {
-    accepted(&ACCEPTED);
-    refused(&REFUSED);
+    let accepted = ACCEPTED;
+    for i in 0..19usize {
+        four(accepted[i]);
+    }
+    let refused = REFUSED;
+    for i in 0..20usize {
+        four(refused[i]);
+    }
     miscounted();
 }
