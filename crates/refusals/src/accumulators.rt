@@ -100,6 +100,15 @@ fn densities(links: &[f64]) {
     add(b"add, a NaN density: ", one, links, &nan);
 }
 
+fn scratch(links: &[f64]) {
+    let ones = [1.0; 16];
+    let mut grid = [0.0; 8];
+    let mut short = [7.0; 15];
+    let one = held(GRID, 1, 0, 0.0);
+    let r = one.add(EXTENTS, 1, links, &ones, &mut grid, &mut short);
+    line(b"add, 15 scratch numbers: ", r.refusal);
+}
+
 fn mean_loops() {
     let odd = held([2, 2, 3], 2, 16, 1.0);
     number_line(b"mean loop, grid 2 2 3: ", odd.mean_loop());
@@ -135,6 +144,14 @@ fn no_correlations() {
     let zero = held(GRID, 2, 16, 0.0);
     let mut list = [7.0; 8];
     correlation(b"correlation, mean loop 0: ", zero, 1, &mut list);
+    let least = held(GRID, 2, 16, 1e-322);
+    let mut list = [7.0; 8];
+    correlation(
+        b"correlation, a product that rounds to 0: ",
+        least,
+        1,
+        &mut list,
+    );
     let tiny = held(GRID, 2, 16, 1e-300);
     let mut list = [7.0; 8];
     correlation(b"correlation out of range: ", tiny, 1, &mut list);
@@ -162,6 +179,7 @@ pub fn lines() {
     lattice::cold(EXTENTS, 6.0, 0, &mut links);
     additions(&links);
     densities(&links);
+    scratch(&links);
     mean_loops();
     correlations();
     no_correlations();

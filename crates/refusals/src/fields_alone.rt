@@ -60,7 +60,7 @@ fn directions(links: &[f64]) {
 fn with_nan(links: &mut [f64; 1152]) {
     links[0] = 0.0 / 0.0;
     plaquette(b"plaquette 0 1 through a NaN: ", 0, 1, links);
-    plaquette(b"plaquette 1 1 beside a NaN: ", 1, 1, links);
+    plaquette(b"plaquette 0 0 through a NaN: ", 0, 0, links);
     plaquette(b"plaquette 1 2 beside a NaN: ", 1, 2, links);
     number_line(
         b"average plaquette with a NaN: ",

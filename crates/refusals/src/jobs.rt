@@ -6,14 +6,17 @@ use sweep::Job;
 // Rows 1 and 5 to 9 of half-sweeps; of 16 sites 8 have a parity.
 const EXTENTS: [usize; 4] = [2, 2, 2, 2];
 
-fn open(label: &[u8], pass: u64, direction: usize, parity: usize) {
-    let plan = Plan {
+fn plan(pass: u64) -> Plan {
+    Plan {
         extents: EXTENTS,
         coupling: 6.0,
         seed: 0,
         pass,
-    };
-    let r = sweep::open_overrelax(plan, direction, parity);
+    }
+}
+
+fn open(label: &[u8], pass: u64, direction: usize, parity: usize) {
+    let r = sweep::open_overrelax(plan(pass), direction, parity);
     line(label, r.refusal);
 }
 
@@ -80,9 +83,21 @@ fn stuck() {
     line(b"update of the identity: ", r.refusal);
 }
 
+fn update(label: &[u8], mu: usize, links: &[f64]) {
+    let r = sweep::overrelax_link(plan(0), 0, mu, links);
+    line(label, r.refusal);
+}
+
+fn updates() {
+    let zeros = [0.0; 1152];
+    update(b"update in a field of zeros: ", 0, &zeros);
+    update(b"update in a field of zeros along 4: ", 4, &zeros);
+}
+
 pub fn lines() {
     openings();
     jobs();
     frames();
     stuck();
+    updates();
 }
