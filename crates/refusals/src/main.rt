@@ -1,0 +1,38 @@
+// Every situation of the table of refusals, row by row, and beside it inputs at its edge that pass. A
+// line has what was handed in, and the number that came back: the row's, or 0.
+mod accumulators;
+mod fields_alone;
+mod jobs;
+mod lists;
+mod walks;
+
+use rows::Count;
+use rows::Number;
+
+fn line(label: &[u8], row: u32) {
+    io::write_all(1, label);
+    io::print_decimal(1, row as u64);
+    io::write_all(1, b"\n");
+}
+
+fn count_line(label: &[u8], r: Count) {
+    match r {
+        Count::Value(n) => line(label, 0),
+        Count::Refused(row) => line(label, row),
+    }
+}
+
+fn number_line(label: &[u8], r: Number) {
+    match r {
+        Number::Value(x) => line(label, 0),
+        Number::Refused(row) => line(label, row),
+    }
+}
+
+fn main() {
+    fields_alone::lines();
+    lists::lines();
+    jobs::lines();
+    walks::lines();
+    accumulators::lines();
+}
