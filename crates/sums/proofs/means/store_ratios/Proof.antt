@@ -7,9 +7,9 @@ use Rattle.loops.specs.Loops.{fill}
 use Rattle.loops.proofs.Laws.{fill-none, fill-next, length-fill}
 use Rattle.geometry.proofs.Range.{fill-listed}
 use Rattle.slices.specs.Slices.{number}
-use Rattle.flux.specs.Parts.{ratio}
-use Rattle.flux.proofs.means.store.Statement.{statement}
-use Rattle.flux.proofs.means.store.Tie as tie
+use Rattle.sums.specs.Means.{ratio}
+use Rattle.sums.proofs.means.store_ratios.Statement.{statement}
+use Rattle.sums.proofs.means.store_ratios.Tie as tie
 
 abbrev Inv-loop : tie.InvT-loop
 Inv-loop grid first samples means out₀ i₀ i-end out i = (i ≤ length out₀) × (out ≡ fill (λ k. ratio samples means (number grid (first + k))) out₀ i) × (length out ≡ length out₀)
@@ -44,5 +44,5 @@ same-length c = c .before .loop .inv .2
 returns : tie.Need-returns Inv-loop μ-loop
 returns c = let e : c .before .loop .i ≡ length (c .before .before .before .before .args .out .now) = omega arith in rw e at (c .before .loop .inv .1) ∙ fill-listed _ _ _ refl
 
-pub store-spec : {M : Type 1} → statement M
-store-spec = tie.close (tie.spec Inv-loop μ-loop loop-holds add-over mul-over shared-slice-read-over (λ c κs. search needs) mul-out slice-write-out (λ c. search needs) (λ c. search needs) loop-again same-length returns)
+pub store-ratios-spec : {M : Type 1} → statement M
+store-ratios-spec = tie.close (tie.spec Inv-loop μ-loop loop-holds add-over mul-over shared-slice-read-over (λ c κs. search needs) mul-out slice-write-out (λ c. search needs) (λ c. search needs) loop-again same-length returns)

@@ -1,9 +1,9 @@
 use mathlib.Core.Path.{sym, _∙_}
 use borrow.Author.Tests.{not-true, not-false}
-use Rattle.flux.proofs.Situations.{bad-cells, bad-loops, sums-left}
+use Rattle.sums.proofs.Laws.{bad-cells, bad-loops, sums-left}
 use borrow.Author.Needs.{needs}
-use Rattle.flux.proofs.addition.finite_sums.Statement.{statement}
-use Rattle.flux.proofs.addition.finite_sums.Tie as tie
+use Rattle.sums.proofs.ending.finite_sums.Statement.{statement}
+use Rattle.sums.proofs.ending.finite_sums.Tie as tie
 
 returns : tie.Need-returns
 returns c = rw (bad-cells _ _ _ (sym (c .before .finite-from .ensures) ∙ not-true _ (c .if1 .taken)))

@@ -8,10 +8,10 @@ use borrow.Author.Tests.{not-true, not-false}
 use Rattle.loops.specs.Loops.{allBelow}
 use Rattle.loops.proofs.Laws.{all-none, all-next, all-fails}
 use Rattle.slices.specs.Slices.{number}
-use Rattle.flux.specs.Parts.{ratio}
+use Rattle.sums.specs.Means.{ratio}
 use Rattle.lattice.proofs.Listed.{finite-listed}
-use Rattle.flux.proofs.means.is_finite.Statement.{statement}
-use Rattle.flux.proofs.means.is_finite.Tie as tie
+use Rattle.sums.proofs.means.ratios_finite.Statement.{statement}
+use Rattle.sums.proofs.means.ratios_finite.Tie as tie
 
 abbrev Inv-loop : tie.InvT-loop
 Inv-loop grid first cells samples means i₀ i = (i ≤ cells) × (allBelow (λ k. finite (ratio samples means (number grid (first + k)))) i ≡ true)
@@ -40,5 +40,5 @@ loop-again c = (omega arith, all-next _ _ (c .before .before .before .before .be
 returns-2 : tie.Need-returns-2 Inv-loop μ-loop
 returns-2 c = let e : c .before .loop .i ≡ c .before .before .before .args .cells = omega arith in sym (rw e at (c .before .loop .inv .1)) ∙ finite-listed _ _
 
-pub is-finite-spec : {M : Type 1} → statement M
-is-finite-spec = tie.close (tie.spec Inv-loop μ-loop loop-holds add-over mul-over shared-slice-read-over (λ c κs. search needs) (λ c κs. search needs) returns (λ c. search needs) (λ c. search needs) loop-again returns-2)
+pub ratios-finite-spec : {M : Type 1} → statement M
+ratios-finite-spec = tie.close (tie.spec Inv-loop μ-loop loop-holds add-over mul-over shared-slice-read-over (λ c κs. search needs) (λ c κs. search needs) returns (λ c. search needs) (λ c. search needs) loop-again returns-2)

@@ -14,8 +14,8 @@ use Rattle.gauge.proofs.TimeLine.{places-are, places-small, line-below}
 use Rattle.paths.specs.Path.{taken}
 use Rattle.paths.specs.Baryon.{loopOf}
 use Rattle.paths.proofs.Walks.{spot-site}
-use Rattle.flux.proofs.addition.slice_loops.Statement.{statement}
-use Rattle.flux.proofs.addition.slice_loops.Tie as tie
+use Rattle.gather.proofs.slice_loops.Statement.{statement}
+use Rattle.gather.proofs.slice_loops.Tie as tie
 
 abbrev Inv-loop : tie.InvT-loop
 Inv-loop scratch₀ links s t a b c t-len d nt v k₀ scratch k = (k ≤ v) × (scratch ≡ fill (λ i. loopOf d (linkOf d links) t-len (t + nt * i) (taken a) (taken b) (taken c)) scratch₀ k) × (length scratch ≡ length scratch₀)

@@ -13,9 +13,9 @@ use Rattle.paths.specs.Baryon.{loopOf}
 use Rattle.slices.specs.Slices.{places, loopsAfter, loopsOf, gridAfter, gridOf}
 use Rattle.slices.proofs.Places.{site-at}
 use Rattle.slices.proofs.Laws.{slice-fits, front-filled, loop-sum, loops-start, loops-next, loops-done, grid-start, back-kept, grid-next, grid-done}
-use Rattle.flux.proofs.Quarks.{in-reach, quark-passable, loops-are}
-use Rattle.flux.proofs.addition.gather.Statement.{statement}
-use Rattle.flux.proofs.addition.gather.Tie as tie
+use Rattle.gather.proofs.Quarks.{in-reach, quark-passable, loops-are}
+use Rattle.gather.proofs.gather.Statement.{statement}
+use Rattle.gather.proofs.gather.Tie as tie
 
 abbrev Inv-loop : tie.InvT-loop
 Inv-loop scratch₀ links densities count t-len w d a b c s nt v sum₀ t₀ scratch sum t =

@@ -1,7 +1,7 @@
-use Rattle.flux.specs.Means.{meanOf}
+use Rattle.sums.specs.Means.{meanOf}
 use borrow.Author.Needs.{needs}
-use Rattle.flux.proofs.means.mean.Statement.{statement}
-use Rattle.flux.proofs.means.mean.Tie as tie
+use Rattle.sums.proofs.means.mean.Statement.{statement}
+use Rattle.sums.proofs.means.mean.Tie as tie
 
 returns : tie.Need-returns
 unfolding meanOf
