@@ -9,10 +9,10 @@ use Rattle.geometry.specs.Order.{halfOf}
 use Rattle.geometry.proofs.Shape.{volume-high}
 use Rattle.geometry.proofs.Order.{halves, nth-below}
 use Rattle.gauge.specs.Field.{linkOf, listOf}
-use Rattle.sweep.specs.Visits.{stuckAmong, segment, overrelaxedField, stuckLinks}
-use Rattle.sweep.proofs.Joined.{visits-none, visits-next, count-next, one-stuck, one-free}
-use Rattle.sweep.proofs.frames.advance.Statement.{statement}
-use Rattle.sweep.proofs.frames.advance.Tie as tie
+use Rattle.visits.specs.Visits.{stuckAmong, segment, overrelaxedField, stuckLinks}
+use Rattle.visits.proofs.Joined.{visits-none, visits-next, count-next, one-stuck, one-free}
+use Rattle.visits.proofs.advance.Statement.{statement}
+use Rattle.visits.proofs.advance.Tie as tie
 
 abbrev Inv-loop : tie.InvT-loop
 Inv-loop links₀ d mu p from count stuck₀ k₀ links stuck k =

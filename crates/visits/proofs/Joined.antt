@@ -4,12 +4,11 @@ use mathlib.Core.List.{List, [], _∷_, _++_, List·Mem, List·Nodup, Disjoint, 
 use mathlib.Core.Bool.{true, false, Bool-discrete, true≢false}
 use mathlib.Core.Logic.{if-pos, if-neg}
 use mathlib.Core.Path.{_≡_, ap, sym, _∙_, subst}
-use native.Mathlib.Decide.{decLt}
 use native.Mathlib.Numerals.{add-one}
 use native.Mathlib.Omega.{arith}
 use lib.Ieee.{Float}
 use lib.ListN.{length, take, drop, length-take, length-drop, take-append-drop}
-use lib.Seq.{take-suc, take-all, getD-drop}
+use lib.Seq.{take-suc, getD-drop}
 use Rattle.geometry.specs.Radix.{volume}
 use Rattle.geometry.specs.Shape.{Shape}
 use Rattle.geometry.specs.Order.{sitesOf, halfOf, nthOf}
@@ -21,10 +20,8 @@ use Rattle.gauge.specs.Field.{linkOf, listOf}
 use Rattle.update.specs.Update.{isStuck, updateOf}
 use Rattle.gauge.proofs.Lists.{Same, list-same, list-holds, links-of}
 use Rattle.update.proofs.UpdateLaws.{updated-nine, update-reads-no-other}
-use Rattle.sweep.specs.declared.Job.{Job}
-use Rattle.sweep.specs.Visits.{stuckAmong, segment, overrelax, overrelaxedField, stuckLinks}
-use Rattle.sweep.specs.Jobs.{frameSites}
-use Rattle.sweep.proofs.Visited.{Inside, visited-none, visited-nine, visited-join, stuck-append, stuck-few, stuck-join}
+use Rattle.visits.specs.Visits.{stuckAmong, segment, overrelax, overrelaxedField, stuckLinks}
+use Rattle.visits.proofs.Visited.{Inside, visited-none, visited-nine, visited-join, stuck-append, stuck-few, stuck-join}
 
 -- ## sites that follow each other
 
@@ -122,28 +119,3 @@ module _ (d : List ℕ) (mu : ℕ) (U : Field) (n : ℕ) where
   pub one-free : isStuck (updateOf d U n mu .stuck) ≡ false → stuckLinks d mu U (n ∷ []) ≡ 0
   unfolding stuckAmong
   one-free e = ap length (if-neg (Bool-discrete (isStuck (updateOf d U n mu .stuck)) true) (λ h. true≢false (sym h ∙ e)) (n ∷ []) [])
-
--- ## a frame's sites
-
-module _ (j : Job) (shape : Shape (j .extents)) (two : j .parity < 2) (size : ℕ) {count : ℕ} (least : count ≡ min size (halfOf (j .extents) - j .visited)) where
-  left : ℕ
-  left = halfOf (j .extents) - j .visited
-
-  rest : List ℕ
-  rest = drop (j .visited) (sitesOf (j .extents) (j .parity))
-
-  few : length rest ≡ left
-  unfolding rest left
-  few = length-drop (j .visited) (sitesOf (j .extents) (j .parity)) ∙ ap (λ (x : ℕ). x - j .visited) (count-sites (j .extents) shape (j .parity) two)
-
-  pub frame-segment : segment (j .extents) (j .parity) (j .visited) count ≡ frameSites j size
-  unfolding frameSites rest left
-  frame-segment = go (decLt left size)
-    where
-      go : Dec (left < size) → take count rest ≡ take size rest
-      go (yes h) = take-all count rest (omega (arith, few)) ∙ sym (take-all size rest (omega (arith, few)))
-      go (no h) = let e : count ≡ size = omega arith in ap (λ (k : ℕ). take k rest) e
-
-  pub frame-count : count ≡ length (frameSites j size)
-  unfolding frameSites
-  frame-count = least ∙ sym (length-part (j .extents) (j .parity) shape two (j .visited) size)

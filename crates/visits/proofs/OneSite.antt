@@ -18,8 +18,8 @@ use Rattle.update.specs.Update.{isStuck, updateOf}
 use Rattle.gauge.proofs.Fits.{sized}
 use Rattle.gauge.proofs.Lists.{list-holds}
 use Rattle.update.proofs.UpdateLaws.{updated-nine}
-use Rattle.sweep.specs.Visits.{visitedLink, overrelax, overrelaxedField}
-use Rattle.sweep.proofs.Visited.{visited-in, visited-out}
+use Rattle.visits.specs.Visits.{visitedLink, overrelax, overrelaxedField}
+use Rattle.visits.proofs.Visited.{visited-in, visited-out}
 
 module _ (d : List ℕ) (l : List Float) (n mu : ℕ) (link : Link d l n mu) where
   here : (nu m : ℕ) → nu ≡ mu → m ≡ n → overrelaxedField d mu (linkOf d l) (n ∷ []) nu m ≡ visitedLink (updateOf d (linkOf d l) n mu) (linkOf d l mu n)

@@ -7,7 +7,7 @@ use lib.Ieee.{Float}
 use Rattle.geometry.specs.Order.{halfOf}
 use Rattle.gauge.specs.Field.{linkOf, listOf, Holds}
 use Rattle.update.specs.Update.{isStuck, updateOf}
-use Rattle.sweep.specs.Visits.{segment, overrelaxedField, stuckLinks}
+use Rattle.visits.specs.Visits.{segment, overrelaxedField, stuckLinks}
 
 -- a visit of one site
 pub record Visited (d : List ℕ) (mu n : ℕ) (old : List Float) (r : Bool) (new : List Float) : Type 0 where

@@ -2,10 +2,10 @@ use mathlib.Core.Path.{sym, _∙_}
 use Rattle.geometry.proofs.Shape.{volume-high}
 use Rattle.links.proofs.Laws.{room-at}
 use Rattle.gauge.proofs.Fits.{sized}
-use Rattle.sweep.proofs.OneSite.{site-stuck, site-moved}
+use Rattle.visits.proofs.OneSite.{site-stuck, site-moved}
 use borrow.Author.Needs.{needs}
-use Rattle.sweep.proofs.frames.visit.Statement.{statement}
-use Rattle.sweep.proofs.frames.visit.Tie as tie
+use Rattle.visits.proofs.visit.Statement.{statement}
+use Rattle.visits.proofs.visit.Tie as tie
 
 returns : tie.Need-returns
 returns c =

@@ -16,7 +16,7 @@ use Rattle.gauge.specs.Staple.{SameOff}
 use Rattle.update.specs.Update.{isStuck}
 use Rattle.gauge.proofs.Lists.{Same}
 use Rattle.geometry.specs.Steps.{parityOf}
-use Rattle.sweep.specs.Visits.{visitedLink, visitedField, stuckSites, stuckAmong}
+use Rattle.visits.specs.Visits.{visitedLink, visitedField, stuckSites, stuckAmong}
 
 -- ## what a field becomes
 
