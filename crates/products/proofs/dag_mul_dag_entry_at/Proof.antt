@@ -7,11 +7,11 @@ use Rattle.mat.specs.Matrix.{ent, at, daggerOf}
 use Rattle.mat.specs.Product.{colCol}
 use Rattle.loops.specs.Loops.{foldTo}
 use Rattle.loops.proofs.Laws.{fold-none, fold-next, fold-done}
 use Rattle.links.specs.Store.{matrixAt}
 use Rattle.links.proofs.Laws.{entry-at}
 use Rattle.mat.proofs.Entries.{dagger-at}
-use Rattle.links.proofs.products.dag_mul_dag_entry_at.Statement.{statement}
-use Rattle.links.proofs.products.dag_mul_dag_entry_at.Tie as tie
+use Rattle.products.proofs.dag_mul_dag_entry_at.Statement.{statement}
+use Rattle.products.proofs.dag_mul_dag_entry_at.Tie as tie
 
 abbrev Inv-loop : tie.InvT-loop
 Inv-loop links a b i j s₀ k₀ s k = (k ≤ 3) × (s ≡ foldTo cadd czero (λ k. cmul (conjOf (ent (matrixAt links a) (3 * k + i))) (at (daggerOf (matrixAt links b)) k j)) k)

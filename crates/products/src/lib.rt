@@ -1,3 +1,4 @@
+// Products of matrices of a lent list where they stand: a matrix that is loaded first is copied.
 use complex::C64;
 use mat::Su3;
 ghost use mathlib.Core.Path.{_≡_};
@@ -5,9 +6,7 @@ ghost use Prim.Native.Nat.{_+_, _<_, _≤_};
 ghost use lib.ListN.{length};
 ghost use Rattle.mat.specs.Matrix.{daggerOf};
 ghost use Rattle.mat.specs.Product.{rowCol, rowRow, colCol, mulOf, mulDagOf, dagMulOf};
 ghost use Rattle.links.specs.Store.{matrixAt, TwoMatrices};
-
-// Products of matrices where they stand: a matrix that is loaded first is copied.
 
 // Entry (i, j) of a·b, where a and b stand at two places.
 pub fn mul_entry_at(links: &[f64], a: usize, b: usize, i: usize, j: usize) -> C64
@@ -16,7 +15,7 @@ pub fn mul_entry_at(links: &[f64], a: usize, b: usize, i: usize, j: usize) -> C6
 {
     let mut s = C64::ZERO;
     for k in 0..3 {
-        s = s.add(crate::cell(links, a + 2 * (3 * i + k)).mul(crate::cell(
+        s = s.add(links::cell(links, a + 2 * (3 * i + k)).mul(links::cell(
             links,
             b + 2 * (3 * k + j),
         )));
@@ -31,7 +30,7 @@ fn mul_dag_entry_at(links: &[f64], a: usize, b: usize, i: usize, j: usize) -> C6
 {
     let mut s = C64::ZERO;
     for k in 0..3 {
-        s = s.add(crate::cell(links, a + 2 * (3 * i + k)).mul(crate::cell(
+        s = s.add(links::cell(links, a + 2 * (3 * i + k)).mul(links::cell(
             links,
             b + 2 * (3 * j + k),
         ).conj()));
@@ -47,9 +46,9 @@ fn dag_mul_dag_entry_at(links: &[f64], a: usize, b: usize, i: usize, j: usize) -
     let mut s = C64::ZERO;
     for k in 0..3 {
         s = s.add(
-            crate::cell(links, a + 2 * (3 * k + i))
+            links::cell(links, a + 2 * (3 * k + i))
                 .conj()
-                .mul(crate::cell(links, b + 2 * (3 * j + k)).conj()),
+                .mul(links::cell(links, b + 2 * (3 * j + k)).conj()),
         );
     }
     s
@@ -63,7 +62,7 @@ fn mul_entry_by(a: Su3, links: &[f64], b: usize, i: usize, j: usize) -> C64
     let m = a.m;
     let mut s = C64::ZERO;
     for k in 0..3 {
-        s = s.add(m[3 * i + k].mul(crate::cell(links, b + 2 * (3 * k + j))));
+        s = s.add(m[3 * i + k].mul(links::cell(links, b + 2 * (3 * k + j))));
     }
     s
 }
@@ -76,7 +75,7 @@ fn mul_dag_entry_by(a: Su3, links: &[f64], b: usize, i: usize, j: usize) -> C64
     let m = a.m;
     let mut s = C64::ZERO;
     for k in 0..3 {
-        s = s.add(m[3 * i + k].mul(crate::cell(links, b + 2 * (3 * j + k)).conj()));
+        s = s.add(m[3 * i + k].mul(links::cell(links, b + 2 * (3 * j + k)).conj()));
     }
     s
 }

@@ -1,7 +1,7 @@
 use Rattle.mat.specs.Product.{mulOf}
 use borrow.Author.Needs.{needs}
-use Rattle.links.proofs.products.mul_at.Statement.{statement}
-use Rattle.links.proofs.products.mul_at.Tie as tie
+use Rattle.products.proofs.mul_at.Statement.{statement}
+use Rattle.products.proofs.mul_at.Tie as tie
 
 returns : tie.Need-returns
 unfolding mulOf
