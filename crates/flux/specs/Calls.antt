@@ -12,7 +12,7 @@ use Rattle.rows.specs.Answers.{IsNumber}
 use Rattle.rows.specs.Finite.{badNumbers}
 use Rattle.gauge.specs.Field.{linkOf}
 use Rattle.lattice.specs.Situations.{badNumber}
-use Rattle.paths.specs.Baryon.{baryonOf}
+use Rattle.contraction.specs.Baryon.{baryonOf}
 use Rattle.sums.specs.Ending.{badSums, zeros}
 use Rattle.flux.specs.declared.FluxAccumulator.{FluxAccumulator}
 use Rattle.flux.specs.declared.FluxAnswer.{FluxAnswer}

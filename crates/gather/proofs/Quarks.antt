@@ -10,7 +10,7 @@ use Rattle.stairs.specs.declared.Stairs.{Stairs}
 use Rattle.stairs.specs.Offsets.{badOffsets, badQuarks, offsetOf}
 use Rattle.stairs.specs.Staircase.{stairsOf}
 use Rattle.paths.specs.Path.{taken, Passable}
-use Rattle.paths.specs.Baryon.{loopOf, baryonOf}
+use Rattle.contraction.specs.Baryon.{loopOf, baryonOf}
 use Rattle.paths.proofs.Staircases.{stairs-taken, stairs-passable}
 
 pub record InReach (o : List ℤ) : Type 0 where

@@ -7,7 +7,7 @@ ghost use lib.ListN.{getD};
 ghost use Rattle.loops.specs.Loops.{fill};
 ghost use Rattle.gauge.specs.Field.{linkOf};
 ghost use Rattle.paths.specs.Path.{taken};
-ghost use Rattle.paths.specs.Baryon.{loopOf, baryonOf};
+ghost use Rattle.contraction.specs.Baryon.{loopOf, baryonOf};
 ghost use Rattle.slices.specs.Slices.{places};
 ghost use Rattle.gather.specs.Parts.{Slice, Gathering, Gathered};
 
@@ -31,7 +31,7 @@ fn slice_loops(
     let v = d[1] * (d[2] * d[3]);
     for k in 0..v {
         let from = steps::spot(d, t + nt * k);
-        scratch[k] = paths::baryon_loop(links, d, s, from, a, b, c, t_len);
+        scratch[k] = contraction::baryon_loop(links, d, s, from, a, b, c, t_len);
     }
 }
 

@@ -9,7 +9,7 @@ use Rattle.geometry.proofs.Shape.{axis-in}
 use Rattle.gauge.specs.Field.{linkOf}
 use Rattle.gauge.proofs.TimeLine.{places-are, places-small}
 use Rattle.paths.specs.Path.{taken}
-use Rattle.paths.specs.Baryon.{loopOf}
+use Rattle.contraction.specs.Baryon.{loopOf}
 use Rattle.slices.specs.Slices.{places, loopsAfter, loopsOf, gridAfter, gridOf}
 use Rattle.slices.proofs.Places.{site-at}
 use Rattle.slices.proofs.Laws.{slice-fits, front-filled, loop-sum, loops-start, loops-next, loops-done, grid-start, back-kept, grid-next, grid-done}

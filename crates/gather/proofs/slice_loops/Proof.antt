@@ -12,7 +12,7 @@ use Rattle.geometry.proofs.Shape.{axis-in, volume-high}
 use Rattle.gauge.specs.Field.{linkOf}
 use Rattle.gauge.proofs.TimeLine.{places-are, places-small, line-below}
 use Rattle.paths.specs.Path.{taken}
-use Rattle.paths.specs.Baryon.{loopOf}
+use Rattle.contraction.specs.Baryon.{loopOf}
 use Rattle.paths.proofs.Walks.{spot-site}
 use Rattle.gather.proofs.slice_loops.Statement.{statement}
 use Rattle.gather.proofs.slice_loops.Tie as tie

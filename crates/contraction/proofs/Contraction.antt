@@ -5,7 +5,7 @@ use Rattle.complex.specs.Rounded.{fone}
 use Rattle.complex.specs.Complex.{czero}
 use Rattle.mat.specs.declared.Su3.{Su3}
 use Rattle.mat.specs.Unitary.{rowOf, rowsOf}
-use Rattle.paths.specs.Epsilon.{epsilonOf, sixOf}
+use Rattle.contraction.specs.Epsilon.{epsilonOf, sixOf}
 
 pub epsilon-sixes : (a b c : Su3)
     → sixOf

@@ -1,9 +1,9 @@
 use crate::epsilon::epsilon_contract;
-use crate::transport::later;
-use crate::transport::path;
-use crate::transport::time_line;
 use geometry::Spot;
 use mat::Su3;
+use paths::later;
+use paths::path;
+use paths::time_line;
 use stairs::Stairs;
 ghost use mathlib.Core.Path.{_≡_};
 ghost use Prim.Native.Nat.{_<_};
@@ -11,8 +11,8 @@ ghost use Rattle.geometry.specs.Radix.{volume};
 ghost use Rattle.geometry.specs.Steps.{spotOf};
 ghost use Rattle.gauge.specs.Field.{linkOf};
 ghost use Rattle.gauge.specs.Polyakov.{laterOf};
 ghost use Rattle.paths.specs.Path.{taken, From, Passable};
-ghost use Rattle.paths.specs.Baryon.{quarkLineOf, loopOf};
+ghost use Rattle.contraction.specs.Baryon.{quarkLineOf, loopOf};
 
 // A quark's line: out to it from the junction, t links along time, and back; top is t later than n.
 fn quark_line(

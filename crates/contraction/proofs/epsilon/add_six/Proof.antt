@@ -1,8 +1,8 @@
 use mathlib.Core.Path.{_≡_, refl}
-use Rattle.paths.specs.Epsilon.{sixOf}
+use Rattle.contraction.specs.Epsilon.{sixOf}
 use borrow.Author.Needs.{needs}
-use Rattle.paths.proofs.epsilon.add_six.Statement.{statement}
-use Rattle.paths.proofs.epsilon.add_six.Tie as tie
+use Rattle.contraction.proofs.epsilon.add_six.Statement.{statement}
+use Rattle.contraction.proofs.epsilon.add_six.Tie as tie
 
 returns : tie.Need-returns
 unfolding sixOf

@@ -3,7 +3,7 @@ use complex::Row;
 use mat::Su3;
 ghost use mathlib.Core.Path.{_≡_};
 ghost use Rattle.complex.specs.Complex.{cmul, cscale};
-ghost use Rattle.paths.specs.Epsilon.{sixOf, epsilonOf};
+ghost use Rattle.contraction.specs.Epsilon.{sixOf, epsilonOf};
 
 fn term(a: C64, b: C64, c: C64, sign: f64) -> C64
     ensures { λ r. ⌜ r ≡ cscale (cmul (cmul a b) c) sign ⌝ }

@@ -1,8 +1,8 @@
 use mathlib.Core.Path.{_≡_, refl}
-use Rattle.paths.proofs.Contraction.{epsilon-sixes}
+use Rattle.contraction.proofs.Contraction.{epsilon-sixes}
 use borrow.Author.Needs.{needs}
-use Rattle.paths.proofs.epsilon.epsilon_contract.Statement.{statement}
-use Rattle.paths.proofs.epsilon.epsilon_contract.Tie as tie
+use Rattle.contraction.proofs.epsilon.epsilon_contract.Statement.{statement}
+use Rattle.contraction.proofs.epsilon.epsilon_contract.Tie as tie
 
 returns : tie.Need-returns
 returns c = rw (c .add-six6 .ensures, c .before .add-six5 .ensures, c .before .before .add-six4 .ensures, c .before .before .before .add-six3 .ensures, c .before .before .before .before .add-six2 .ensures, c .before .before .before .before .before .add-six .ensures, c .before .before .before .before .before .before .rows3 .ensures, c .before .before .before .before .before .before .before .rows2 .ensures, c .before .before .before .before .before .before .before .before .rows .ensures) (epsilon-sixes _ _ _)

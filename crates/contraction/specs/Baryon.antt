@@ -11,8 +11,8 @@ use Rattle.gauge.specs.Polyakov.{laterOf, timeLineOf}
 use Rattle.stairs.specs.declared.Step.{Step}
 use Rattle.stairs.specs.Offsets.{offsetOf}
 use Rattle.stairs.specs.Staircase.{staircaseOf}
 use Rattle.paths.specs.Path.{pathOf}
-use Rattle.paths.specs.Epsilon.{epsilonOf}
+use Rattle.contraction.specs.Epsilon.{epsilonOf}
 
 module _ (d : List ℕ) (U : Field) (t : ℕ) where
   -- P(t₀) L P(t₀ + t)†: along the steps from the site n, t links along time, and back along the steps from the site t later than n

@@ -1,10 +1,10 @@
-use Rattle.paths.proofs.Quarks.{quark-line}
+use Rattle.contraction.proofs.Quarks.{quark-line}
 use mathlib.Core.Path.{_≡_, refl, ap, sym, _∙_}
 use Rattle.paths.specs.declared.Walked.{Walked}
 use Rattle.paths.proofs.Walks.{from-spot, path-below, later-below}
 use borrow.Author.Needs.{needs}
-use Rattle.paths.proofs.baryon.quark_line.Statement.{statement}
-use Rattle.paths.proofs.baryon.quark_line.Tie as tie
+use Rattle.contraction.proofs.baryon.quark_line.Statement.{statement}
+use Rattle.contraction.proofs.baryon.quark_line.Tie as tie
 
 time-line-requires : tie.Need-time-line-requires
 time-line-requires c κs = from-spot _ _ _ _ (c .before .before .pre .0) _ (path-below _ (c .before .before .pre .0 .holds .shape) _ _ _ (c .before .before .pre .0 .below) (c .before .before .pre .2)) (ap (λ (w : Walked). w .end) (c .path .ensures))

@@ -12,11 +12,11 @@ use Rattle.links.specs.Field.{Field}
 use Rattle.gauge.specs.Plaquette.{fsix}
 use Rattle.gauge.specs.Polyakov.{laterOf}
 use Rattle.stairs.specs.declared.Step.{Step}
 use Rattle.paths.specs.declared.Walked.{Walked}
 use Rattle.paths.specs.Path.{pathOf, lineOf, walkedOf}
-use Rattle.paths.specs.Epsilon.{epsilonOf}
-use Rattle.paths.specs.Baryon.{quarkLineOf, loopOf}
+use Rattle.contraction.specs.Epsilon.{epsilonOf}
+use Rattle.contraction.specs.Baryon.{quarkLineOf, loopOf}
 use Rattle.paths.proofs.Walks.{spot-site}
 
 module _ (d : List ℕ) (U : Field) (t n : ℕ) where
   pub quark-line : (steps : List Step) {lower line upper : Walked} {top : Spot} {x r : Su3}

@@ -1,7 +1,7 @@
 use mathlib.Core.Path.{_≡_, refl, ap, sym, _∙_}
 use borrow.Author.Needs.{needs}
-use Rattle.paths.proofs.epsilon.term.Statement.{statement}
-use Rattle.paths.proofs.epsilon.term.Tie as tie
+use Rattle.contraction.proofs.epsilon.term.Statement.{statement}
+use Rattle.contraction.proofs.epsilon.term.Tie as tie
 
 returns : tie.Need-returns
 returns c = rw (c .scale .ensures, c .before .mul2 .ensures, c .before .before .mul .ensures)
