@@ -1,13 +1,10 @@
-// What a host hands over as numbers, and back; an enum answer as its two numbers.
+// What a host hands over as numbers, and back.
 ghost use mathlib.Core.Path.{_≡_};
-ghost use Rattle.rows.specs.Answers.{countRefusal, countValue, numberRefusal, numberValue};
 ghost use Rattle.arrays.specs.Arrays.{matrixIn, blockIn, quatIn, pairNumbers, matrixNumbers, planeNumbers, blockNumbers, quatNumbers};
 use complex::C64;
 use mat::Su3;
 use quat::Mat2;
 use quat::Quat;
-use rows::Count;
-use rows::Number;
 
 pub fn matrix(a: [f64; 18]) -> Su3
     ensures { λ r. ⌜ r ≡ matrixIn a ⌝ }
@@ -133,42 +130,4 @@ pub fn pair_numbers(z: C64) -> [f64; 2]
     ensures { λ r. ⌜ r ≡ pairNumbers z ⌝ }
 {
     [z.re, z.im]
-}
-
-// An enum answer as its two numbers.
-
-pub fn count_refusal(answer: Count) -> u32
-    ensures { λ r. ⌜ r ≡ countRefusal answer ⌝ }
-{
-    match answer {
-        Count::Value(_) => 0,
-        Count::Refused(row) => row,
-    }
-}
-
-pub fn count_value(answer: Count) -> usize
-    ensures { λ r. ⌜ r ≡ countValue answer ⌝ }
-{
-    match answer {
-        Count::Value(n) => n,
-        Count::Refused(_) => 0,
-    }
-}
-
-pub fn number_refusal(answer: Number) -> u32
-    ensures { λ r. ⌜ r ≡ numberRefusal answer ⌝ }
-{
-    match answer {
-        Number::Value(_) => 0,
-        Number::Refused(row) => row,
-    }
-}
-
-pub fn number_value(answer: Number) -> f64
-    ensures { λ r. ⌜ r ≡ numberValue answer ⌝ }
-{
-    match answer {
-        Number::Value(x) => x,
-        Number::Refused(_) => 0.0,
-    }
 }

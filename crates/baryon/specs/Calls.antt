@@ -15,7 +15,7 @@ use Rattle.lattice.specs.Situations.{badNumber, badMatrix}
 use Rattle.stairs.specs.declared.Step.{Step}
 use Rattle.stairs.specs.Staircase.{stepsTo, staircaseOf, noStep}
 use Rattle.paths.specs.Path.{Transporter, pathOf, lineOf}
-use Rattle.paths.specs.Baryon.{baryonOf}
+use Rattle.contraction.specs.Baryon.{baryonOf}
 use Rattle.baryon.specs.declared.StairsAnswer.{StairsAnswer}
 use Rattle.baryon.specs.declared.PathAnswer.{PathAnswer}
 use Rattle.baryon.specs.Situations.{stairRows, pathRows, lineRows, loopRows}

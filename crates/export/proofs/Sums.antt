@@ -6,6 +6,7 @@ use native.Mathlib.Omega.{arith}
 use lib.Ieee.{Float, nan}
 use lib.IntN.{ℤ}
 use lib.ListN.{length, getD}
+use Rattle.loops.proofs.Few.{three-are, four-are}
 use Rattle.rows.specs.Rows.{ifAccepted}
 use Rattle.rows.proofs.Laws.{if-refused, if-accepted}
 use Rattle.flux.specs.declared.FluxAccumulator.{FluxAccumulator}
@@ -56,21 +57,6 @@ correlation-given same e = let f = rw same at e in record { refusal = ap (λ (b 
 
 -- ## handed on
 
-three-are : (l : List ℕ) → length l ≡ 3 → getD l 0 0 ∷ getD l 1 0 ∷ getD l 2 0 ∷ [] ≡ l
-three-are [] h = absurd (omega arith)
-three-are (a ∷ []) h = absurd (omega arith)
-three-are (a ∷ b ∷ []) h = absurd (omega arith)
-three-are (a ∷ b ∷ c ∷ []) h = refl
-three-are (a ∷ b ∷ c ∷ d ∷ l) h = absurd (omega arith)
-
-four-are : (l : List Float) → length l ≡ 4 → getD l 0 nan ∷ getD l 1 nan ∷ getD l 2 nan ∷ getD l 3 nan ∷ [] ≡ l
-four-are [] h = absurd (omega arith)
-four-are (a ∷ []) h = absurd (omega arith)
-four-are (a ∷ b ∷ []) h = absurd (omega arith)
-four-are (a ∷ b ∷ c ∷ []) h = absurd (omega arith)
-four-are (a ∷ b ∷ c ∷ d ∷ []) h = refl
-four-are (a ∷ b ∷ c ∷ d ∷ e ∷ l) h = absurd (omega arith)
-
 pub hand-on : AccumulatorsHandOn
 unfolding accIn countNumbers sumNumbers
-hand-on acc three four low = let small : min (acc .count) 0xffff_ffff ≡ acc .count = omega arith in rw (small, three-are (acc .n) three, four-are (acc .s) four)
+hand-on acc three four low = let small : min (acc .count) 0xffff_ffff ≡ acc .count = omega arith in rw (small, ← three-are 0 (acc .n) three, ← four-are nan (acc .s) four)

@@ -8,9 +8,10 @@ use lib.ListN.{length, getD}
 use Rattle.rows.specs.Rows.{ifAccepted}
 use Rattle.flux.specs.declared.FluxAccumulator.{FluxAccumulator}
 use Rattle.flux.specs.declared.FluxAnswer.{FluxAnswer}
+use Rattle.sums.specs.Ending.{zeros}
 use Rattle.flux.specs.Means.{meanLoop, correlationList}
 use Rattle.flux.specs.Sums.{Addition, addedGrid, addedOf}
-use Rattle.flux.specs.Calls.{fluxAnswer, zeros, emptyAcc, zeroAcc, newRow, openRow, addRow, loopAt, meanRow, correlationRow}
+use Rattle.flux.specs.Calls.{fluxAnswer, emptyAcc, zeroAcc, newRow, openRow, addRow, loopAt, meanRow, correlationRow}
 use Rattle.export.specs.Face.{Given, NumberGiven}
 
 -- ## Three arrays: counts, offsets, sums

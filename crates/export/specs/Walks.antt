@@ -8,7 +8,7 @@ use lib.ListN.{drop}
 use Rattle.rows.specs.Rows.{ifAccepted}
 use Rattle.gauge.specs.Field.{linkOf}
 use Rattle.stairs.specs.Staircase.{stepsTo, staircaseOf}
-use Rattle.paths.specs.Baryon.{baryonOf}
+use Rattle.contraction.specs.Baryon.{baryonOf}
 use Rattle.arrays.specs.Arrays.{matrixNumbers}
 use Rattle.baryon.specs.declared.PathAnswer.{PathAnswer}
 use Rattle.baryon.specs.Calls.{loopRow}

@@ -1,7 +1,7 @@
 ghost use mathlib.Core.List.{[], _∷_};
 ghost use Rattle.export.specs.Lists.{ColdGiven, CheckGiven};
-use arrays::count_refusal;
-use arrays::count_value;
+use rows::count_refusal;
+use rows::count_value;
 
 #[no_mangle]
 pub extern "C" fn jj_cold(ext: &[usize; 4], coupling: f64, seed: u64, links: &mut [f64]) -> u32

@@ -2,9 +2,9 @@ ghost use Rattle.lattice.specs.Answers.{plaquetteCall, stapleCall, loopCall};
 ghost use Rattle.export.specs.Face.{planIn, MatrixGiven, LoopGiven};
 ghost use Rattle.export.specs.Lists.{AverageGiven, ActionGiven};
 use arrays::matrix_numbers;
-use arrays::number_refusal;
-use arrays::number_value;
 use lattice::Plan;
+use rows::number_refusal;
+use rows::number_value;
 
 #[no_mangle]
 pub extern "C" fn jj_plaquette(

@@ -4,8 +4,8 @@ ghost use Rattle.geometry.specs.Steps.{fwdOf, bwdOf, parityOf};
 ghost use Rattle.lattice.specs.Rows.{extentsRows, siteRows, coordsRows, stepRows};
 ghost use Rattle.lattice.specs.Answers.{coordsCall};
 ghost use Rattle.export.specs.Face.{CountGiven, CoordsGiven};
-use arrays::count_refusal;
-use arrays::count_value;
+use rows::count_refusal;
+use rows::count_value;
 
 #[no_mangle]
 pub extern "C" fn jj_n_sites(ext: &[usize; 4], out: &mut [usize; 1]) -> u32

@@ -1,8 +1,8 @@
-use arrays::count_refusal;
-use arrays::count_value;
 use arrays::matrix_numbers;
-use arrays::number_refusal;
-use arrays::number_value;
+use rows::count_refusal;
+use rows::count_value;
+use rows::number_refusal;
+use rows::number_value;
 ghost use mathlib.Core.List.{[], _∷_, map};
 ghost use Rattle.baryon.specs.Calls.{pathCall, lineCall};
 ghost use Rattle.baryon.specs.Codes.{stepOfCode};

@@ -9,7 +9,7 @@ use lib.Dec.{ltb}
 use lib.ListN.{getD}
 use borrow.Author.Tests.{ltb-false}
 use Rattle.loops.specs.Loops.{foldTo}
-use Rattle.slices.proofs.Folds.{fold-same}
+use Rattle.loops.proofs.Folds.{fold-same}
 use Rattle.complex.specs.declared.C64.{C64}
 use Rattle.complex.specs.Rounded.{fzero, fone, fthree, asFloat, inverse, _⊞_, _⊟_, _⊠_}
 use Rattle.complex.specs.Complex.{czero, cone, cadd, cmul, cscale, conjOf}
@@ -29,8 +29,8 @@ use Rattle.stairs.specs.Offsets.{offsetOf}
 use Rattle.stairs.specs.Line.{signum, dot, lineDist}
 use Rattle.stairs.specs.Staircase.{differs, movedOf, leftOf, firstMin, firstOf, bestOf, stepAlong, placeAt, stepAt, stepsTo, staircaseOf}
 use Rattle.paths.specs.Path.{Transporter, stepOf, stepsFrom, pathOf}
-use Rattle.paths.specs.Epsilon.{epsilonOf}
-use Rattle.paths.specs.Baryon.{quarkLineOf, loopOf, baryonOf}
+use Rattle.contraction.specs.Epsilon.{epsilonOf}
+use Rattle.contraction.specs.Baryon.{quarkLineOf, loopOf, baryonOf}
 use Rattle.paths.proofs.Walks.{later-below, step-below}
 use Rattle.baryon.specs.Situations.{badAxes}
 use Rattle.findings.specs.Findings.{Small, quarks}

@@ -1,6 +1,6 @@
 -- The program's rows: which refuses its input, what holds where none does, and what is printed.
 use Prim.Native.Nat.{ℕ, _+_, _<_, _≤_}
-use mathlib.Core.Bool.{Bool, true, false, true≢false}
+use mathlib.Core.Bool.{true, false}
 use mathlib.Core.List.{List, [], _∷_, _++_}
 use mathlib.Core.Path.{_≡_, refl, ap, sym, _∙_}
 use native.Mathlib.Omega.{arith}
@@ -10,8 +10,8 @@ use lib.Seq.{take-at}
 use borrow.Author.Tests.{eq-eqb, ne-eqb, eqb-true, lt-ltb, le-ltb, ltb-false, not-false}
 use Rattle.rows.specs.declared.Count.{Count}
 use Rattle.rows.specs.Rows.{firstRow}
-use Rattle.rows.specs.Answers.{countRefusal, countValue, countOf, IsCount}
-use Rattle.rows.proofs.Laws.{no-row, row-holds, row-passes, row-passed, rows-refuse, if-accepted, if-refused, count-refused, count-accepted}
+use Rattle.rows.specs.Answers.{IsCount}
+use Rattle.rows.proofs.Laws.{value-case, refused-case, no-row, row-holds, row-passes, row-passed, rows-refuse, if-accepted, if-refused, count-refused, count-accepted}
 use Rattle.geometry.specs.Radix.{volume}
 use Rattle.geometry.proofs.Shape.{fits-shape}
 use Rattle.lattice.specs.Situations.{badExtents}
@@ -23,20 +23,6 @@ use Rattle.ascii.proofs.Laws.{at-front}
 use Rattle.findings.specs.declared.Findings.{Findings}
 use Rattle.findings.specs.Findings.{Small, findingsOf}
 use Rattle.findings.specs.Columns.{badInput, badSites, inputRows, linesOf, columnsOf, ColumnsCall}
-
--- ## which case an answer is
-
-isValue : Count → Bool
-isValue (Count.Value n) = true
-isValue (Count.Refused row) = false
-
-pub value-case : {row m n : ℕ} → IsCount row n (Count.Value m) → (row ≡ 0) × (m ≡ n)
-unfolding countRefusal countValue
-value-case {row} {m} {n} is = let none = sym (is .refusal) in (none, is .value ∙ if-accepted n 0 none)
-
-pub refused-case : {row k n : ℕ} → IsCount row n (Count.Refused k) → (k ≡ row) × (row ≡ 0 → ⊥)
-unfolding countRefusal countOf isValue
-refused-case {row} {k} {n} is = (is .refusal, λ none. true≢false (sym (ap isValue (is .case ∙ ap (λ r. countOf r n) none))))
 
 -- ## the rows
 

@@ -16,7 +16,7 @@ use Rattle.lattice.specs.declared.ColdAnswer.{ColdAnswer}
 use Rattle.lattice.specs.declared.LoopAnswer.{LoopAnswer}
 use Rattle.lattice.specs.Cold.{coldLinks, coldAnswer, ColdCall}
 use Rattle.lattice.specs.Answers.{AverageCall, ActionCall, loopAnswer, loopCall}
-use Rattle.paths.specs.Baryon.{baryonOf}
+use Rattle.contraction.specs.Baryon.{baryonOf}
 use Rattle.baryon.specs.Calls.{BaryonCall}
 use Rattle.findings.specs.declared.Findings.{Findings}
 use Rattle.findings.specs.declared.field.Frames.{Frames}

@@ -25,7 +25,7 @@ use Rattle.links.specs.Field.{Field}
 use Rattle.update.specs.declared.Updated.{Updated}
 use Rattle.update.specs.Update.{isStuck, quatOver, reflectionOf, isShort, shortNorm, ifFinite, throughSubgroups, updateLinkOf, updateOf}
 use Rattle.update.proofs.UpdateLaws.{update-is-local}
-use Rattle.sweep.specs.Visits.{stuckAmong, stuckSites, overrelax}
+use Rattle.visits.specs.Visits.{stuckAmong, stuckSites, overrelax}
 use Rattle.sweep.specs.RunOfFrames.{Frame, lent, Between, answerOf, acceptedSum, Answered, opened}
 use Rattle.sweep.proofs.RunOfFrames.{frames-are-visits}
 use Rattle.lattice.specs.Cold.{coldLinks}

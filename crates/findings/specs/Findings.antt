@@ -13,7 +13,7 @@ use Rattle.gauge.specs.Plaquette.{fsix, averageOf, actionOf}
 use Rattle.gauge.specs.Polyakov.{polyakovOf}
 use Rattle.lattice.specs.declared.Plan.{Plan}
 use Rattle.lattice.specs.Cold.{coldLinks}
-use Rattle.paths.specs.Baryon.{baryonOf}
+use Rattle.contraction.specs.Baryon.{baryonOf}
 use Rattle.sweep.specs.declared.Job.{Job}
 use Rattle.sweep.specs.RunOfFrames.{Frame, lent, run, opened}
 use Rattle.findings.specs.declared.Findings.{Findings}

@@ -46,10 +46,10 @@ pub fn measure(extents: [usize; 4], sites: usize, links: &mut [f64]) -> Findings
 {
     let started = lattice::cold(extents, 6.0, 0, links);
     let plan = started.plan;
-    let plaquette = arrays::number_value(lattice::average_plaquette(extents, links));
-    let action = arrays::number_value(lattice::action(plan, links));
+    let plaquette = rows::number_value(lattice::average_plaquette(extents, links));
+    let action = rows::number_value(lattice::action(plan, links));
     let polyakov = lattice::polyakov_loop(extents, links);
-    let baryon = arrays::number_value(baryon::baryon_loop(extents, 0, QUARKS, 2, links));
+    let baryon = rows::number_value(baryon::baryon_loop(extents, 0, QUARKS, 2, links));
     let frames = half_sweep(plan, links);
     Findings {
         sites,

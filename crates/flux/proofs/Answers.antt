@@ -11,13 +11,15 @@ use Rattle.geometry.specs.Radix.{volume}
 use Rattle.rows.specs.Rows.{firstRow, ifAccepted}
 use Rattle.rows.proofs.Laws.{if-refused, if-accepted, first-row, last-row}
 use Rattle.slices.specs.Slices.{number}
+use Rattle.sums.specs.Ending.{badSums, zeros, sumsRow}
+use Rattle.sums.specs.Means.{meanOf, ratio}
+use Rattle.sums.proofs.Laws.{list-kept, list-new}
 use Rattle.flux.specs.declared.FluxAccumulator.{FluxAccumulator}
 use Rattle.flux.specs.declared.FluxAnswer.{FluxAnswer}
-use Rattle.flux.specs.Situations.{badSums}
-use Rattle.flux.specs.Means.{meanOf, meansOf, correlationAt, correlationList}
+use Rattle.flux.specs.Means.{meansOf, correlationAt, correlationList}
 use Rattle.flux.specs.Sums.{Addition, addedGrid, addedOf}
-use Rattle.flux.specs.Calls.{fluxAnswer, emptyAcc, zeroAcc, newRow, NewCall, openRow, addRow, Added, correlationRow, CorrelationCall, zeros}
-use Rattle.flux.specs.Parts.{sumsRow, Finished, ratio}
+use Rattle.flux.specs.Calls.{fluxAnswer, emptyAcc, zeroAcc, newRow, NewCall, openRow, addRow, Added, correlationRow, CorrelationCall}
+use Rattle.flux.specs.Parts.{Finished}
 
 -- ## one part of an answer
 
@@ -28,12 +30,6 @@ answer-kept {r} new old same ne = rw (← same, if-refused new old r ne)
 pub answer-new : {row : ℕ} (new old : FluxAccumulator) → 0 ≡ row → record { refusal = 0; acc = new } ≡ fluxAnswer row new old
 unfolding fluxAnswer
 answer-new new old same = rw (← same, if-accepted new old refl)
-
-pub list-kept : {r row : ℕ} (new old : List Float) → r ≡ row → (r ≡ 0 → ⊥) → old ≡ ifAccepted row new old
-list-kept {r} new old same ne = rw (← same) (sym (if-refused new old r ne))
-
-pub list-new : {row : ℕ} {exit new : List Float} (old : List Float) → 0 ≡ row → exit ≡ new → exit ≡ ifAccepted row new old
-list-new {row} {exit} {new} old same e = e ∙ rw (← same) (sym (if-accepted new old refl))
 
 -- ## new
 
@@ -58,7 +54,7 @@ module _ (W : ℕ → Float) (x : Addition) {row : ℕ} (same : row ≡ openRow 
       → {r : FluxAnswer} {grid scratch : List Float} → Finished (x .acc) new (x .grid) s r grid scratch → Added W x r grid scratch
   unfolding addRow
   added-finished none {new} {s} sums cells long f =
-      let tested : sumsRow (x .grid) s new ≡ addRow W x
+      let tested : sumsRow (x .grid) s (new .w) (new .s) ≡ addRow W x
       = ap₂ (λ (l : List Float) (a : FluxAccumulator). firstRow ((badSums l (a .w) (a .s), 10) ∷ [])) cells sums ∙ last-row same _ none in
       record {
         answer = f .answer ∙ ap₂ (λ (k : ℕ) (a : FluxAccumulator). fluxAnswer k a (x .acc)) tested sums;

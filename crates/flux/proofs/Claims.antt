@@ -11,9 +11,9 @@ use borrow.Author.Tests.{ltb-true, eqb-false, not-true}
 use Rattle.rows.specs.Rows.{firstRow, ifAccepted}
 use Rattle.rows.proofs.Laws.{if-refused, if-accepted, finally-refused, finally-accepted}
 use Rattle.flux.specs.declared.FluxAnswer.{FluxAnswer}
-use Rattle.flux.specs.Situations.{badSums}
+use Rattle.sums.specs.Ending.{badSums, zeros}
 use Rattle.flux.specs.Sums.{Addition, withSums, addedGrid, addedOf}
-use Rattle.flux.specs.Calls.{fluxAnswer, openRow, addRow, Added, zeros}
+use Rattle.flux.specs.Calls.{fluxAnswer, openRow, addRow, Added}
 use Rattle.flux.specs.Claims.{RefusedStoresNothing, RowTenClears, AcceptedClears, SamplesGrow}
 
 -- ## a number that none of the rows has

@@ -8,6 +8,7 @@ use native.Mathlib.Omega.{arith}
 use lib.Dec.{eqb}
 use lib.ListN.{length, getD}
 use borrow.Author.Tests.{eqb-true, not-false}
+use Rattle.loops.proofs.Few.{three-are}
 use Rattle.loops.specs.Loops.{allBelow}
 use Rattle.loops.proofs.Laws.{all-each}
 use Rattle.geometry.specs.Radix.{volume}
@@ -23,18 +24,11 @@ use Rattle.flux.specs.Parts.{Grid}
 pub grid-extents : (n : List ℕ) → length n ≡ 3 → allBelow (λ a. extentTest (getD n a 0)) 3 ≡ true → Grid n
 grid-extents n three h = record { three = three; each = λ a g. extent-true (getD n a 0) (all-each (λ (k : ℕ). extentTest (getD n k 0)) 3 a g h) }
 
-three-are : (l : List ℕ) → length l ≡ 3 → l ≡ getD l 0 0 ∷ getD l 1 0 ∷ getD l 2 0 ∷ []
-three-are [] h = absurd (omega arith)
-three-are (a ∷ []) h = absurd (omega arith)
-three-are (a ∷ b ∷ []) h = absurd (omega arith)
-three-are (a ∷ b ∷ c ∷ []) h = refl
-three-are (a ∷ b ∷ c ∷ d ∷ l) h = absurd (omega arith)
-
 -- ## their cells
 
 pub cells-are : (n : List ℕ) → length n ≡ 3 → getD n 0 0 * (getD n 1 0 * getD n 2 0) ≡ volume n
 unfolding volume
-cells-are n h = rw (three-are n h, mul-one (getD n 2 0))
+cells-are n h = rw (three-are 0 n h, mul-one (getD n 2 0))
 
 pub record Cells (n : List ℕ) : Type 0 where
   pub yz : getD n 1 0 * getD n 2 0 ≤ 256

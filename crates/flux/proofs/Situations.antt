@@ -1,21 +1,18 @@
 -- When a situation holds and when not.
 use Prim.Native.Nat.{ℕ, _*_, _<_, _≤_}
-use mathlib.Core.Bool.{Bool, true, false, not}
+use mathlib.Core.Bool.{Bool, true, false}
 use mathlib.Core.List.{List}
-use mathlib.Core.Path.{_≡_, refl}
+use mathlib.Core.Path.{_≡_}
 use lib.Ieee.{Float, eq}
-use lib.Ieee.Scale.{finite}
 use lib.ListN.{getD}
 use borrow.Author.Tests.{lt-ltb, le-ltb, eq-eqb, ne-eqb}
 use Rattle.loops.specs.Loops.{allBelow}
 use Rattle.complex.specs.Rounded.{fzero}
 use Rattle.geometry.specs.Radix.{volume}
 use Rattle.geometry.specs.Shape.{extentTest}
-use Rattle.rows.specs.Finite.{finiteNumbers, badNumbers}
-use Rattle.lattice.specs.Situations.{badNumber}
 use Rattle.flux.specs.declared.FluxAccumulator.{FluxAccumulator}
 use Rattle.flux.specs.Means.{meansOf}
-use Rattle.flux.specs.Situations.{badGrid, badDensities, badGridList, badScratch, badCorrelation, badCount, otherCount, badDensity, fullSamples, noSamples, noMeans, badSums}
+use Rattle.flux.specs.Situations.{badGrid, badDensities, badGridList, badScratch, badCorrelation, badCount, otherCount, badDensity, fullSamples, noSamples, noMeans}
 
 -- ## row 1
 
@@ -62,8 +59,6 @@ module _ (d : List ℕ) (count : ℕ) where
   pub good-densities : {long : ℕ} → long ≡ count * volume d → badDensities d count long ≡ false
   unfolding badDensities
   good-densities h = rw (eq-eqb _ _ h)
-
--- ## row 11
 
 -- ## row 13
 
@@ -116,22 +111,3 @@ some-samples h = rw (ne-eqb _ _ h)
 pub means-tested : (acc : FluxAccumulator) (k : ℕ) {m : Float} {b : Bool} → m ≡ meansOf acc k → eq m fzero ≡ b → noMeans acc k ≡ b
 unfolding noMeans
 means-tested acc k e h = rw (← e) h
-
--- ## row 10
-
-module _ (grid : List Float) (w : Float) (s : List Float) where
-  pub bad-cells : finiteNumbers grid ≡ false → badSums grid w s ≡ true
-  unfolding badSums badNumbers
-  bad-cells a = rw a
-
-  pub bad-loops : finiteNumbers grid ≡ true → finite w ≡ false → badSums grid w s ≡ true
-  unfolding badSums badNumbers badNumber
-  bad-loops a b = rw (a, b)
-
-  pub sums-left : finiteNumbers grid ≡ true → finite w ≡ true → finiteNumbers s ≡ not (badSums grid w s)
-  unfolding badSums badNumbers badNumber
-  sums-left a b = rw (a, b) (twice (finiteNumbers s))
-    where
-      twice : (x : Bool) → x ≡ not (not x)
-      twice true = refl
-      twice false = refl

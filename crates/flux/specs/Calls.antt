@@ -12,17 +12,14 @@ use Rattle.rows.specs.Answers.{IsNumber}
 use Rattle.rows.specs.Finite.{badNumbers}
 use Rattle.gauge.specs.Field.{linkOf}
 use Rattle.lattice.specs.Situations.{badNumber}
-use Rattle.paths.specs.Baryon.{baryonOf}
+use Rattle.contraction.specs.Baryon.{baryonOf}
+use Rattle.sums.specs.Ending.{badSums, zeros}
 use Rattle.flux.specs.declared.FluxAccumulator.{FluxAccumulator}
 use Rattle.flux.specs.declared.FluxAnswer.{FluxAnswer}
 use Rattle.flux.specs.declared.CorrelationAnswer.{CorrelationAnswer}
-use Rattle.flux.specs.Situations.{badSums, newRows, meanRows, correlationRows, addRows}
+use Rattle.flux.specs.Situations.{newRows, meanRows, correlationRows, addRows}
 use Rattle.flux.specs.Means.{meanLoop, correlationList}
 use Rattle.flux.specs.Sums.{Addition, addedGrid, addedOf}
-
--- as many +0
-abbrev pub zeros : List Float → List Float
-zeros l = replicate (length l) fzero
 
 -- an accumulator with a refusal's number: the new one where that is 0, the old one where not
 unfoldable pub fluxAnswer : ℕ → FluxAccumulator → FluxAccumulator → FluxAnswer

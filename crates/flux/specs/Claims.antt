@@ -5,7 +5,8 @@ use mathlib.Core.Path.{_≡_}
 use lib.Ieee.{Float}
 use Rattle.flux.specs.declared.FluxAnswer.{FluxAnswer}
 use Rattle.flux.specs.Sums.{Addition}
-use Rattle.flux.specs.Calls.{Added, zeros}
+use Rattle.sums.specs.Ending.{zeros}
+use Rattle.flux.specs.Calls.{Added}
 
 module _ (W : ℕ → Float) (x : Addition) (r : FluxAnswer) (grid scratch : List Float) where
   -- refused by a row other than 10, it stores nothing

@@ -2,15 +2,12 @@
 use Prim.Native.Nat.{ℕ, _+_, _*_}
 use mathlib.Core.List.{List, map}
 use lib.Ieee.{Float, binary64, div}
-use Rattle.complex.specs.Rounded.{_⊠_, asFloat}
+use Rattle.complex.specs.Rounded.{_⊠_}
 use Rattle.geometry.specs.Range.{range}
 use Rattle.geometry.specs.Radix.{volume}
 use Rattle.slices.specs.Slices.{number}
+use Rattle.sums.specs.Means.{meanOf}
 use Rattle.flux.specs.declared.FluxAccumulator.{FluxAccumulator}
-
--- a sum over the number of samples, taken as the nearest f64
-unfoldable pub meanOf : Float → ℕ → Float
-meanOf sum samples = div binary64 sum (asFloat samples)
 
 -- ⟨W⟩
 unfoldable pub meanLoop : FluxAccumulator → Float

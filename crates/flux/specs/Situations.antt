@@ -3,16 +3,15 @@ use Prim.Native.Nat.{ℕ, _+_, _*_}
 use mathlib.Core.Bool.{Bool, not, _||_}
 use mathlib.Core.List.{List, [], _∷_}
 use lib.Dec.{ltb, eqb}
-use lib.Ieee.{Float, eq}
+use lib.Ieee.{eq}
 use lib.IntN.{ℤ}
 use lib.ListN.{getD}
 use Rattle.loops.specs.Loops.{allBelow}
 use Rattle.complex.specs.Rounded.{fzero}
 use Rattle.geometry.specs.Radix.{volume}
 use Rattle.geometry.specs.Shape.{extentTest}
-use Rattle.rows.specs.Finite.{badNumbers}
 use Rattle.lattice.specs.Rows.{Rows}
-use Rattle.lattice.specs.Situations.{badExtents, badLinks, badNumber}
+use Rattle.lattice.specs.Situations.{badExtents, badLinks}
 use Rattle.stairs.specs.Offsets.{badQuarks, badTime}
 use Rattle.flux.specs.declared.FluxAccumulator.{FluxAccumulator}
 use Rattle.flux.specs.Means.{meansOf}
@@ -62,10 +61,6 @@ noSamples samples = eqb samples 0
 -- 14: mean loop times mean density equal to 0, of either sign
 unfoldable pub noMeans : FluxAccumulator → ℕ → Bool
 noMeans acc k = eq (meansOf acc k) fzero
-
--- 10: a number of the grid, the loops' sum or one of the densities' sums isn't finite
-unfoldable pub badSums : List Float → Float → List Float → Bool
-badSums grid w s = badNumbers grid || badNumber w || badNumbers s
 
 -- ## Rows
 

@@ -1,84 +1,12 @@
 use crate::FluxAccumulator;
 use crate::FluxAnswer;
 use crate::judges::add_row;
-use stairs::Stairs;
 ghost use mathlib.Core.Path.{_≡_};
-ghost use mathlib.Core.Bool.{not};
-ghost use Prim.Native.Nat.{_+_, _*_, _≤_, min};
-ghost use lib.ListN.{length, getD, drop};
-ghost use Rattle.loops.specs.Loops.{fill};
-ghost use Rattle.gauge.specs.Field.{linkOf};
-ghost use Rattle.paths.specs.Path.{taken};
-ghost use Rattle.paths.specs.Baryon.{loopOf, baryonOf};
-ghost use Rattle.slices.specs.Slices.{places};
-ghost use Rattle.flux.specs.Situations.{badSums};
+ghost use Prim.Native.Nat.{_+_};
+ghost use lib.ListN.{length};
 ghost use Rattle.flux.specs.Sums.{withSums};
 ghost use Rattle.flux.specs.Calls.{AddCall};
-ghost use Rattle.flux.specs.Parts.{Slice, Gathering, Gathered, Finished};
-
-// Writes the loops of the slice t to the front of the scratch; s are the strides, a, b, c the
-// staircases.
-fn slice_loops(
-    scratch: &mut [f64],
-    links: &[f64],
-    d: [usize; 4],
-    s: [usize; 5],
-    t: usize,
-    a: Stairs,
-    b: Stairs,
-    c: Stairs,
-    t_len: usize,
-)
-    requires { ⌜ Slice (now scratch) (now links) d s t a b c ⌝ }
-    ensures { λ _. ⌜ now (scratch .exit) ≡ fill (λ k. loopOf d (linkOf d (now (links .entry))) «t_len» (t + getD d 0 0 * k) (taken a) (taken b) (taken c)) (now (scratch .entry)) (places d) ⌝ }
-{
-    let nt = d[0];
-    let v = d[1] * (d[2] * d[3]);
-    for k in 0..v {
-        let from = steps::spot(d, t + nt * k);
-        scratch[k] = paths::baryon_loop(links, d, s, from, a, b, c, t_len);
-    }
-}
-
-// Goes over the slices: adds each cell's sum to the second half of the scratch, and the loops' to w.
-fn gather(
-    scratch: &mut [f64],
-    links: &[f64],
-    densities: &[f64],
-    d: [usize; 4],
-    count: usize,
-    o: [i32; 9],
-    t_len: usize,
-    w: f64,
-) -> f64
-    requires { ⌜ Gathering (now scratch) (now links) (now densities) d o «t_len» count ⌝ }
-    ensures { λ r. ⌜ Gathered (baryonOf d (linkOf d (now (links .entry))) «t_len» o) d (now (densities .entry)) «t_len» count (now (scratch .entry)) w r (now (scratch .exit)) ⌝ }
-{
-    let a = stairs::staircase(stairs::offset(o, 0));
-    let b = stairs::staircase(stairs::offset(o, 1));
-    let c = stairs::staircase(stairs::offset(o, 2));
-    let s = steps::strides(d);
-    let nt = d[0];
-    let v = d[1] * (d[2] * d[3]);
-    let mut sum = w;
-    for t in 0..nt {
-        slice_loops(scratch, links, d, s, t, a, b, c, t_len);
-        sum += slices::total(scratch, 0, v);
-        slices::slice_cells(scratch, densities, d, count, (t + t_len / 2) % nt);
-    }
-    sum
-}
-
-// So many more samples, at most 2^64 − 1.
-fn more_samples(samples: u64, sites: usize) -> u64
-    ensures { λ r. ⌜ r ≡ min (samples + sites) 0xffff_ffff_ffff_ffff ⌝ }
-{
-    let more = sites as u64;
-    if 18446744073709551615 - samples < more {
-        return 18446744073709551615;
-    }
-    samples + more
-}
+ghost use Rattle.flux.specs.Parts.{Finished};
 
 // An accumulator with other sums, and so many more samples.
 fn with_sums(acc: FluxAccumulator, sites: usize, w: f64, s: [f64; 4]) -> FluxAccumulator
@@ -91,28 +19,13 @@ fn with_sums(acc: FluxAccumulator, sites: usize, w: f64, s: [f64; 4]) -> FluxAcc
         offsets,
         t_len: acc.t_len,
         count: acc.count,
-        samples: more_samples(acc.samples, sites),
+        samples: sums::more_samples(acc.samples, sites),
         w,
         s,
     }
 }
 
-// Whether all new sums are finite; the grid's stand in the scratch from number g on.
-fn finite_sums(scratch: &[f64], g: usize, w: f64, s: [f64; 4]) -> bool
-    requires { ⌜ g ≤ length (now scratch) ⌝ }
-    ensures { λ r. ⌜ r ≡ not (badSums (drop g (now (scratch .entry))) w s) ⌝ }
-{
-    if !slices::finite_from(scratch, g) {
-        return false;
-    }
-    if !rows::is_finite(w) {
-        return false;
-    }
-    slices::all_finite(&s)
-}
-
-// The end of an addition of any kind of loop: the new sums are stored where all are finite, and the scratch
-// is cleared.
+// The end of an addition of any kind of loop: the new sums, where all are finite, or the old ones.
 fn finish(
     old: FluxAccumulator,
     new: FluxAccumulator,
@@ -123,16 +36,13 @@ fn finish(
     ensures { λ r. ⌜ Finished old new (now (grid .entry)) (now (scratch .entry)) r (now (grid .exit)) (now (scratch .exit)) ⌝ }
 {
     let s = new.s;
-    let g = grid.len();
-    if !finite_sums(scratch, g, new.w, s) {
-        slices::clear(scratch);
+    let row = sums::store(grid, scratch, new.w, s);
+    if row != 0 {
         return FluxAnswer {
-            refusal: 10,
+            refusal: row,
             acc: old,
         };
     }
-    slices::copy_from_second_half(grid, scratch);
-    slices::clear(scratch);
     FluxAnswer {
         refusal: 0,
         acc: new,
@@ -171,7 +81,7 @@ impl FluxAccumulator {
         let offsets = self.offsets;
         let old = self.s;
         slices::copy_into_second_half(scratch, grid);
-        let w = gather(
+        let w = gather::gather(
             scratch,
             links,
             densities,

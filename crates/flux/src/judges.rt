@@ -1,11 +1,12 @@
 use crate::FluxAccumulator;
-use crate::means::mean;
+use sums::mean;
 ghost use mathlib.Core.Path.{_≡_};
 ghost use Prim.Native.Nat.{_≤_};
 ghost use Rattle.rows.specs.Rows.{Judged};
 ghost use Rattle.geometry.specs.Radix.{volume};
 ghost use Rattle.flux.specs.Situations.{otherGrid, newRows, meanRows, correlationRows, addRows};
-ghost use Rattle.flux.specs.Parts.{gridRows, ownRows, sizeRows, Grid, Own, Sizes, Addable, Correlatable};
+ghost use Rattle.gather.specs.Parts.{Own};
+ghost use Rattle.flux.specs.Parts.{gridRows, ownRows, sizeRows, Grid, Sizes, Addable, Correlatable};
 
 // The judges: the first row that holds of a call's inputs, and 0 where none does.
 

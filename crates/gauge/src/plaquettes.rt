@@ -24,8 +24,8 @@ pub fn plaquette_at(
     requires { ⌜ Corners (now links) v mu nu n f g ⌝ }
     ensures { λ r. ⌜ r ≡ plaquetteAt (fieldOf v (now (links .entry))) mu nu n f g ⌝ }
 {
-    let a = links::mul_at(links, links::place(v, mu, n), links::place(v, nu, f));
-    let b = links::mul_at(links, links::place(v, nu, n), links::place(v, mu, g));
+    let a = products::mul_at(links, links::place(v, mu, n), links::place(v, nu, f));
+    let b = products::mul_at(links, links::place(v, nu, n), links::place(v, mu, g));
     a.mul_dag(b)
 }
 
@@ -47,7 +47,7 @@ fn diagonal(links: &[f64], a: usize, b: usize, c: usize, e: usize, i: usize) -> 
 {
     let mut s = C64::ZERO;
     for k in 0..3 {
-        s = s.add(links::mul_entry_at(links, a, b, i, k).mul(links::mul_entry_at(
+        s = s.add(products::mul_entry_at(links, a, b, i, k).mul(products::mul_entry_at(
             links,
             c,
             e,
@@ -67,14 +67,14 @@ fn first_two(links: &[f64], a: usize, b: usize, c: usize, e: usize) -> f64
     let mut s = C64::ZERO;
     let mut t = C64::ZERO;
     for k in 0..3 {
-        s = s.add(links::mul_entry_at(links, a, b, 0, k).mul(links::mul_entry_at(
+        s = s.add(products::mul_entry_at(links, a, b, 0, k).mul(products::mul_entry_at(
             links,
             c,
             e,
             0,
             k,
         ).conj()));
-        t = t.add(links::mul_entry_at(links, a, b, 1, k).mul(links::mul_entry_at(
+        t = t.add(products::mul_entry_at(links, a, b, 1, k).mul(products::mul_entry_at(
             links,
             c,
             e,

@@ -27,13 +27,13 @@ fn add_staples(
     requires { ⌜ StapleSites (now links) v mu nu n f u b s ⌝ }
     ensures { λ r. ⌜ matrixOf r ≡ addOf (addOf (matrixOf a) (upperAt (fieldOf v (now (links .entry))) mu nu n f u)) (lowerAt (fieldOf v (now (links .entry))) mu nu b s) ⌝ }
 {
-    let upper = links::mul_dag_by(
-        links::mul_dag_at(links, links::place(v, nu, f), links::place(v, mu, u)),
+    let upper = products::mul_dag_by(
+        products::mul_dag_at(links, links::place(v, nu, f), links::place(v, mu, u)),
         links,
         links::place(v, nu, n),
     );
-    let lower = links::mul_by(
-        links::dag_mul_dag_at(links, links::place(v, nu, s), links::place(v, mu, b)),
+    let lower = products::mul_by(
+        products::dag_mul_dag_at(links, links::place(v, nu, s), links::place(v, mu, b)),
         links,
         links::place(v, nu, b),
     );

@@ -9,6 +9,7 @@ use lib.Dec.{leb, eqb}
 use lib.ListN.{length, getD}
 use borrow.Author.Tests.{leb-true, eqb-true, le-leb, eq-eqb}
 use Rattle.loops.proofs.Laws.{all-each, each-all}
+use Rattle.loops.proofs.Few.{four-are as few-are}
 use Rattle.geometry.specs.Radix.{volume}
 use Rattle.geometry.specs.Shape.{Extent, Shape, extentTest, fitsOf}
 
@@ -39,12 +40,7 @@ shape-fits d s = each-all (λ (k : ℕ). extentTest (getD d k 0)) 4 (λ mu g. ex
 
 -- a list of four is its four elements
 pub four-are : (l : List ℕ) → length l ≡ 4 → l ≡ getD l 0 0 ∷ getD l 1 0 ∷ getD l 2 0 ∷ getD l 3 0 ∷ []
-four-are [] h = absurd (omega arith)
-four-are (a ∷ []) h = absurd (omega arith)
-four-are (a ∷ b ∷ []) h = absurd (omega arith)
-four-are (a ∷ b ∷ c ∷ []) h = absurd (omega arith)
-four-are (a ∷ b ∷ c ∷ d ∷ []) h = refl
-four-are (a ∷ b ∷ c ∷ d ∷ e ∷ l) h = absurd (omega arith)
+four-are = few-are 0
 
 pub axis-in : (d : List ℕ) → Shape d → (mu : ℕ) → mu < 4 → mu < length d
 axis-in d s mu h = omega (arith, s .four)

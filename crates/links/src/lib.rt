@@ -1,15 +1,7 @@
 // The matrices of a lent list of numbers: every read and every store of a link goes through here. `place`
 // has where the link of a direction at a site begins; links follow each other by eighteen numbers.
-mod products;
-
 use complex::C64;
 use mat::Su3;
-pub use products::dag_mul_dag_at;
-pub use products::mul_at;
-pub use products::mul_by;
-pub use products::mul_dag_at;
-pub use products::mul_dag_by;
-pub use products::mul_entry_at;
 ghost use mathlib.Core.Path.{_≡_};
 ghost use Prim.Native.Nat.{_+_, _<_, _≤_};
 ghost use lib.ListN.{length};

@@ -1,4 +1,2 @@
 pub mod Walks
-pub mod Contraction
-pub mod Quarks
 pub mod Staircases

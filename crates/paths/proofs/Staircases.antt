@@ -2,25 +2,19 @@
 use Prim.Native.Nat.{ℕ, suc, _+_, _-_, _<_, _≤_}
 use mathlib.Core.Bool.{false}
 use mathlib.Core.List.{List, _++_, map}
-use mathlib.Core.Path.{_≡_, refl, ap, sym, _∙_}
+use mathlib.Core.Path.{_≡_}
 use native.Mathlib.Omega.{arith}
 use lib.ListN.{length, getD, take, replicate, length-append, List·getD-append}
 use lib.Seq.{take-at}
 use lib.IntN.{ℤ}
-use lib.Ieee.{Float}
-use Rattle.geometry.specs.declared.Spot.{Spot}
-use Rattle.geometry.specs.Steps.{spotOf}
-use Rattle.links.specs.Field.{Field}
 use Rattle.geometry.specs.Range.{range}
 use Rattle.geometry.proofs.Range.{length-listed, listed-at}
 use Rattle.stairs.specs.declared.Stairs.{Stairs}
-use Rattle.stairs.specs.Offsets.{badOffsets, offsetOf}
+use Rattle.stairs.specs.Offsets.{badOffsets}
 use Rattle.stairs.specs.Staircase.{bestOf, stepAlong, placeAt, stepAt, stepsTo, staircaseOf, stairsOf, noStep}
 use Rattle.stairs.proofs.Best.{best-low}
 use Rattle.stairs.proofs.Climb.{steps-low}
 use Rattle.paths.specs.Path.{taken, Passable}
-use Rattle.paths.specs.Baryon.{loopOf, baryonOf}
-use Rattle.paths.proofs.Walks.{spot-site}
 
 module _ (d : List ℤ) where
   abbrev rest : ℕ
@@ -45,11 +39,3 @@ module _ (d : List ℤ) where
     long = rw (length-append, long-staircase) (omega arith);
     axes = λ i l. rw (List·getD-append (staircaseOf d) (replicate rest noStep) noStep i (rw long-staircase l)) (step-axis i l);
   })
-
--- the loop along three staircases
-pub baryon-is : (d : List ℕ) (U : Field) (t : ℕ) (o : List ℤ) (n : ℕ) {a b c : Stairs} {p : Spot} {x : Float}
-    → a ≡ stairsOf (offsetOf o 0) → b ≡ stairsOf (offsetOf o 1) → c ≡ stairsOf (offsetOf o 2) → p ≡ spotOf d n
-    → x ≡ loopOf d U t (p .site) (taken a) (taken b) (taken c) → x ≡ baryonOf d U t o n
-unfolding baryonOf
-baryon-is d U t o n h i j e f =
-    rw (f, ap (λ (q : Spot). q .site) e ∙ spot-site d n, stairs-taken (offsetOf o 0) h, stairs-taken (offsetOf o 1) i, stairs-taken (offsetOf o 2) j)

@@ -1,12 +1,9 @@
-// Products of links along steps, and the loop of three quarks, on a field that fits. s are the strides
-// of the extents d.
-mod baryon;
-mod epsilon;
+// Products of links along steps, on a field that fits. s are the strides of the extents d.
 mod transport;
 
-pub use baryon::baryon_loop;
 use geometry::Spot;
 use mat::Su3;
+pub use transport::later;
 pub use transport::path;
 pub use transport::time_line;
 

@@ -16,17 +16,11 @@ fn line(label: &[u8], row: u32) {
 }
 
 fn count_line(label: &[u8], r: Count) {
-    match r {
-        Count::Value(n) => line(label, 0),
-        Count::Refused(row) => line(label, row),
-    }
+    line(label, rows::count_refusal(r));
 }
 
 fn number_line(label: &[u8], r: Number) {
-    match r {
-        Number::Value(x) => line(label, 0),
-        Number::Refused(row) => line(label, row),
-    }
+    line(label, rows::number_refusal(r));
 }
 
 fn main() {

@@ -2,7 +2,7 @@
 use Prim.Native.Nat.{ℕ, zero, suc, _<_}
 use mathlib.Core.Bool.{Bool, true, false, cond, _&&_, _||_, and-eq-true-iff, true≢false}
 use mathlib.Core.List.{List, [], _∷_, _++_}
-use mathlib.Core.Path.{_≡_, refl, sym, _∙_}
+use mathlib.Core.Path.{_≡_, refl, ap, sym, _∙_}
 use native.Mathlib.Omega.{arith}
 use lib.Dec.{ltb}
 use lib.Ieee.{Float}
@@ -167,3 +167,17 @@ module _ {r row : ℕ} (same : r ≡ row) where
 
   pub number-accepted : {x y : Float} → r ≡ 0 → y ≡ x → IsNumber row x (Number.Value y)
   number-accepted {x} {y} e h = is-number row x (rw (← same, e, h) (unfold numberOf in refl))
+
+-- ## which case it is
+
+isValue : Count → Bool
+isValue (Count.Value n) = true
+isValue (Count.Refused row) = false
+
+pub value-case : {row m n : ℕ} → IsCount row n (Count.Value m) → (row ≡ 0) × (m ≡ n)
+unfolding countRefusal countValue
+value-case {row} {m} {n} is = let none = sym (is .refusal) in (none, is .value ∙ if-accepted n 0 none)
+
+pub refused-case : {row k n : ℕ} → IsCount row n (Count.Refused k) → (k ≡ row) × (row ≡ 0 → ⊥)
+unfolding countRefusal countOf isValue
+refused-case {row} {k} {n} is = (is .refusal, λ none. true≢false (sym (ap isValue (is .case ∙ ap (λ r. countOf r n) none))))

@@ -16,7 +16,7 @@ use Rattle.geometry.proofs.Shape.{axis-in}
 use Rattle.gauge.specs.Polyakov.{space}
 use Rattle.slices.specs.Slices.{places, siteAt, shifted, densityAt, productAt, sliceSum, cellSum, gridAfter, gridOf}
 use Rattle.slices.specs.Claims.{SitesBySlices, OffsetsWrap, GridIsSumOfSlices, DensitiesApart}
-use Rattle.slices.proofs.Folds.{fold-same}
+use Rattle.loops.proofs.Folds.{fold-same}
 use Rattle.slices.proofs.Places.{site-at, site-below}
 
 -- ## sites

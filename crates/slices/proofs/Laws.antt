@@ -16,7 +16,7 @@ use Rattle.geometry.proofs.Range.{listed-at, drop-fill}
 use Rattle.gauge.specs.Polyakov.{space}
 use Rattle.slices.specs.Slices.{places, siteAt, midTime, number, numbersFrom, densityAt, withSlice, cellSum, loopSum, gridAfter, gridOf, loopsAfter, loopsOf}
 use Rattle.slices.proofs.Filled.{listed-same, listed-is}
-use Rattle.slices.proofs.Folds.{fold-same}
+use Rattle.loops.proofs.Folds.{fold-same}
 use Rattle.slices.proofs.SliceAdded.{slice-sum-same, slice-behind}
 
 -- what `copy_into_second_half` leaves behind the front

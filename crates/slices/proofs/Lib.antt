@@ -3,7 +3,6 @@ pub mod Laws
 pub mod Places
 pub mod Claims
 pub mod Filled
-pub mod Folds
 pub mod RowInTwo
 pub mod SliceInRows
 pub mod SliceAdded

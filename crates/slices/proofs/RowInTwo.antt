@@ -10,7 +10,7 @@ use Rattle.loops.specs.Loops.{foldTo}
 use Rattle.complex.specs.Rounded.{_⊠_}
 use Rattle.slices.specs.Slices.{number}
 use Rattle.slices.specs.Parts.{runSum, wrappedSum, Run, Row}
-use Rattle.slices.proofs.Folds.{fold-same, fold-more}
+use Rattle.loops.proofs.Folds.{fold-same, fold-more}
 
 module _ (w dens : List Float) (first at nt nx rx : ℕ) where
   module _ (row : Row w dens first at nt nx rx) where

@@ -20,7 +20,7 @@ use Rattle.slices.specs.Slices.{places, number, numbersFrom, densityAt, 
 use Rattle.slices.specs.Parts.{Cell, Scratch}
 use Rattle.geometry.proofs.Range.{fill-listed}
 use Rattle.slices.proofs.Filled.{Behind, behind-next, behind-ahead, behind-front, behind-done}
-use Rattle.slices.proofs.Folds.{fold-same}
+use Rattle.loops.proofs.Folds.{fold-same}
 use Rattle.slices.proofs.Places.{space-are}
 
 -- ## numbers of places and sites

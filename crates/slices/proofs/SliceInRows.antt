@@ -14,7 +14,7 @@ use Rattle.geometry.proofs.Shape.{axis-in}
 use Rattle.gauge.proofs.TimeLine.{places-are, line-below}
 use Rattle.slices.specs.Slices.{places, siteAt, shifted, number, numbersFrom, productAt}
 use Rattle.slices.specs.Parts.{wrappedSum, rowSum, planeSum, Row, Cell}
-use Rattle.slices.proofs.Folds.{fold-same, fold-iter, iter-same, iter-nested}
+use Rattle.loops.proofs.Folds.{fold-same, fold-iter, iter-same, iter-nested}
 use Rattle.slices.proofs.Places.{three, space-are, shifted-three, site-at, three-below, RowSmall, row-small}
 
 -- ## planes, then rows, are all places

@@ -24,12 +24,12 @@ use Rattle.update.specs.Update.{isStuck, updateOf}
 use Rattle.gauge.proofs.Lists.{Same, list-same}
 use Rattle.lattice.specs.declared.Plan.{Plan}
 use Rattle.sweep.specs.declared.FinishedAnswer.{FinishedAnswer}
-use Rattle.sweep.specs.Visits.{visitedLink, stuckAmong, overrelax, overrelaxedField, stuckLinks}
+use Rattle.visits.specs.Visits.{visitedLink, stuckAmong, overrelax, overrelaxedField, stuckLinks}
 use Rattle.sweep.specs.Jobs.{openCall, openRow, finishedCall}
 use Rattle.sweep.specs.RunOfFrames.{Frame, opened, run, acceptedSum, OthersMisfit, firstSites, Opening}
 use Rattle.sweep.specs.Sweeps.{onSet, halfSweepOf, freeHalfSweep, FinishedIsHalfSweep, CutsDoNotMatter}
 use Rattle.sweep.proofs.Laws.{Accepted, accepted-opening}
-use Rattle.sweep.proofs.Visited.{visited-in, visited-out}
+use Rattle.visits.proofs.Visited.{visited-in, visited-out}
 use Rattle.sweep.proofs.RunOfFrames.{stateAt, ran, opened-state, frames-are-visits}
 
 -- ## a half-sweep's field

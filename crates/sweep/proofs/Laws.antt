@@ -18,7 +18,7 @@ use Rattle.lattice.specs.declared.Plan.{Plan}
 use Rattle.lattice.specs.Situations.{badExtents, badCoupling, badDirection}
 use Rattle.rows.proofs.Laws.{or-false}
 use Rattle.sweep.specs.declared.Job.{Job}
-use Rattle.sweep.specs.Visits.{overrelaxedField}
+use Rattle.visits.specs.Visits.{overrelaxedField}
 use Rattle.sweep.specs.Jobs.{badParity, badPass, badJob, InRange, openRow, newJob, noJob, passedPlan, openCall, frameSites, framedJob, frameRow, frameAnswer, frameLinks, FrameCall, finishedRows, finishedCall}
 
 -- ## rows 6 and 7

@@ -17,12 +17,12 @@ use Rattle.gauge.specs.Field.{linkOf, listOf}
 use Rattle.gauge.proofs.Lists.{Same, length-list, links-of}
 use Rattle.lattice.specs.declared.Plan.{Plan}
 use Rattle.lattice.proofs.Laws.{bad-links, good-links}
-use Rattle.sweep.specs.Visits.{stuckAmong, segment, overrelax, overrelaxedField, stuckLinks}
+use Rattle.visits.specs.Visits.{stuckAmong, segment, overrelax, overrelaxedField, stuckLinks}
 use Rattle.sweep.specs.Jobs.{InRange, newJob, counted, openCall, openRow, frameRow, frameSites, frameAnswer, frameLinks, finishedRows, finishedCall}
 use Rattle.sweep.specs.RunOfFrames.{Frame, Between, opened, answerOf, next, run, acceptedSum, OthersMisfit, Answered, firstSites, Swept, FramesAreVisits}
 use Rattle.sweep.proofs.Laws.{good-job, Accepted, accepted-opening}
-use Rattle.sweep.proofs.Visited.{visited-in, visited-out}
-use Rattle.sweep.proofs.Joined.{Pieces, part-inside, pieces, length-part, few-stuck, field-nine, visits-join, count-join, visits-none}
+use Rattle.visits.proofs.Visited.{visited-in, visited-out}
+use Rattle.visits.proofs.Joined.{Pieces, part-inside, pieces, length-part, few-stuck, field-nine, visits-join, count-join, visits-none}
 
 module _ (q : Plan) (mu p : ℕ) (l₀ : List Float) (ok : Accepted q mu p) (long : length l₀ ≡ 72 * volume (q .extents)) where
   -- ## the state after s visits

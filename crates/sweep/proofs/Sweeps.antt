@@ -21,7 +21,7 @@ use Rattle.update.specs.Update.{isStuck, updateOf}
 use Rattle.gauge.proofs.Lists.{Same, length-list, list-is, list-same, links-of}
 use Rattle.update.proofs.UpdateLaws.{updated-nine, update-reads-no-other}
 use Rattle.lattice.specs.declared.Plan.{Plan}
-use Rattle.sweep.specs.Visits.{visitedLink}
+use Rattle.visits.specs.Visits.{visitedLink}
 use Rattle.sweep.specs.Jobs.{openCall, finishedCall, passedPlan}
 use Rattle.sweep.specs.RunOfFrames.{run, OthersMisfit, Opening}
 use Rattle.sweep.specs.Sweeps.{LinkSet, onSet, halfSweepOf, freeHalfSweep, inTurn, HalfSweep, State, openedOn, afterHalf, runAll, AllFinished, NoneStuck, Fits, JobsAreHalfSweeps, EightJobsAreSweep}

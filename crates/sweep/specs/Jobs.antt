@@ -18,7 +18,7 @@ use Rattle.sweep.specs.declared.Job.{Job}
 use Rattle.sweep.specs.declared.Opened.{Opened}
 use Rattle.sweep.specs.declared.Framed.{Framed}
 use Rattle.sweep.specs.declared.FinishedAnswer.{FinishedAnswer}
-use Rattle.sweep.specs.Visits.{visitedField, stuckAmong, segment, overrelax}
+use Rattle.visits.specs.Visits.{visitedField, stuckAmong, segment, overrelax}
 
 -- ## Rows 6, 7 and 8
 

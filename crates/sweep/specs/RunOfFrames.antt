@@ -13,7 +13,7 @@ use Rattle.gauge.specs.Field.{linkOf}
 use Rattle.lattice.specs.declared.Plan.{Plan}
 use Rattle.sweep.specs.declared.Job.{Job}
 use Rattle.sweep.specs.declared.Framed.{Framed}
-use Rattle.sweep.specs.Visits.{visitedLink, stuckAmong}
+use Rattle.visits.specs.Visits.{visitedLink, stuckAmong}
 use Rattle.sweep.specs.Jobs.{newJob, openCall, updateBy, counted, frameAnswer, frameLinks, finishedCall}
 
 -- ## A run

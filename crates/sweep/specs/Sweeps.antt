@@ -15,7 +15,7 @@ use Rattle.links.specs.Field.{Field}
 use Rattle.gauge.specs.Field.{linkOf, listOf}
 use Rattle.update.specs.Update.{updateOf}
 use Rattle.lattice.specs.declared.Plan.{Plan}
-use Rattle.sweep.specs.Visits.{visitedLink}
+use Rattle.visits.specs.Visits.{visitedLink}
 use Rattle.sweep.specs.Jobs.{openCall, finishedCall, passedPlan}
 use Rattle.sweep.specs.RunOfFrames.{Frame, Between, opened, run, acceptedSum, OthersMisfit, Opening}
 

@@ -3,7 +3,8 @@ use native.Mathlib.Omega.{arith}
 use Rattle.rows.proofs.Laws.{first-row, last-row, is-number, number-refused}
 use Rattle.stairs.proofs.Whole.{each-quark}
 use Rattle.paths.proofs.Walks.{from-site}
-use Rattle.paths.proofs.Staircases.{stairs-passable, baryon-is}
+use Rattle.paths.proofs.Staircases.{stairs-passable}
+use Rattle.contraction.proofs.Staircases.{baryon-is}
 use borrow.Author.Needs.{needs}
 use Rattle.baryon.proofs.quarks.baryon_loop.Statement.{statement}
 use Rattle.baryon.proofs.quarks.baryon_loop.Tie as tie

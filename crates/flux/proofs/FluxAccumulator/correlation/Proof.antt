@@ -23,8 +23,8 @@ array-read-mean c = omega (arith, c .before .before .before .correlation-row .en
 mul-first : tie.Need-mul-first
 mul-first c = let f = c .before .before .before .before .before .correlation-row .ensures .accepted (c .before .before .before .before .if1 .left) in omega (arith, mul-le-mul (le-of-lt (f .density)) (f .small))
 
-is-finite-requires : tie.Need-is-finite-requires
-is-finite-requires c κs = c .before .before .before .before .before .correlation-row .ensures .accepted (c .before .before .before .before .if1 .left) .there
+ratios-finite-requires : tie.Need-ratios-finite-requires
+ratios-finite-requires c κs = c .before .before .before .before .before .correlation-row .ensures .accepted (c .before .before .before .before .if1 .left) .there
 
 returns-2 : tie.Need-returns-2
 unfolding correlationRow meansOf meanLoop
@@ -33,11 +33,11 @@ returns-2 c =
     let f = c .before .before .before .before .before .before .before .correlation-row .ensures .accepted (c .before .before .before .before .before .before .if1 .left) in
     let product : c .before .before .before .before .mean .result ⊠ c .before .before .before .mean2 .result ≡ meansOf (q .self) (q .k) = rw (c .before .before .before .before .mean .ensures, c .before .before .before .mean2 .ensures) in
     let are = correlations-are (q .self) (q .k) (q .grid .now) (c .before .before .nearest-u64-to-f64 .ensures) product refl (f .cells) in
-    let ten = row-holds 10 _ (bad-numbers (correlationList (q .self) (q .k) (q .grid .now)) (sym (ap finiteNumbers are) ∙ sym (c .before .is-finite .ensures) ∙ not-true _ (c .if2 .taken))) in
+    let ten = row-holds 10 _ (bad-numbers (correlationList (q .self) (q .k) (q .grid .now)) (sym (ap finiteNumbers are) ∙ sym (c .before .ratios-finite .ensures) ∙ not-true _ (c .if2 .taken))) in
     correlation-refused (q .self) (q .k) (q .grid .now) (q .out .now) (sym ten ∙ last-row (c .before .before .before .before .before .before .before .correlation-row .ensures .row) _ (c .before .before .before .before .before .before .if1 .left)) (λ e. omega arith)
 
-store-requires : tie.Need-store-requires
-store-requires c κs = c .before .before .before .before .before .before .before .before .correlation-row .ensures .accepted (c .before .before .before .before .before .before .before .if1 .left) .there
+store-ratios-requires : tie.Need-store-ratios-requires
+store-ratios-requires c κs = c .before .before .before .before .before .before .before .before .correlation-row .ensures .accepted (c .before .before .before .before .before .before .before .if1 .left) .there
 
 returns-3 : tie.Need-returns-3
 unfolding correlationRow meansOf meanLoop
@@ -46,8 +46,8 @@ returns-3 c =
     let f = c .before .before .before .before .before .before .before .before .before .before .before .correlation-row .ensures .accepted (c .before .before .before .before .before .before .before .before .before .before .if1 .left) in
     let product : c .before .before .before .before .before .before .before .before .mean .result ⊠ c .before .before .before .before .before .before .before .mean2 .result ≡ meansOf (q .self) (q .k) = rw (c .before .before .before .before .before .before .before .before .mean .ensures, c .before .before .before .before .before .before .before .mean2 .ensures) in
     let are = correlations-are (q .self) (q .k) (q .grid .now) (c .before .before .before .before .before .before .nearest-u64-to-f64 .ensures) product refl (f .cells) in
-    let none = row-passes 10 _ (good-numbers (correlationList (q .self) (q .k) (q .grid .now)) (sym (ap finiteNumbers are) ∙ sym (c .before .before .before .before .before .is-finite .ensures) ∙ not-false _ (c .before .before .before .before .if2 .left))) ∙ no-row in
-    correlation-filled (q .self) (q .k) (q .grid .now) (q .out .now) (sym none ∙ last-row (c .before .before .before .before .before .before .before .before .before .before .before .correlation-row .ensures .row) _ (c .before .before .before .before .before .before .before .before .before .before .if1 .left)) (c .before .before .store .ensures ∙ are)
+    let none = row-passes 10 _ (good-numbers (correlationList (q .self) (q .k) (q .grid .now)) (sym (ap finiteNumbers are) ∙ sym (c .before .before .before .before .before .ratios-finite .ensures) ∙ not-false _ (c .before .before .before .before .if2 .left))) ∙ no-row in
+    correlation-filled (q .self) (q .k) (q .grid .now) (q .out .now) (sym none ∙ last-row (c .before .before .before .before .before .before .before .before .before .before .before .correlation-row .ensures .row) _ (c .before .before .before .before .before .before .before .before .before .before .if1 .left)) (c .before .before .store-ratios .ensures ∙ are)
 
 pub correlation-spec : {M : Type 1} → statement M
-correlation-spec = tie.close (tie.spec (λ c κs. search needs) returns (λ c κs. search needs) (λ c. search needs) array-read-mean (λ c κs. search needs) (λ c κs. search needs) mul-first is-finite-requires returns-2 store-requires (λ c. search needs) returns-3)
+correlation-spec = tie.close (tie.spec (λ c κs. search needs) returns (λ c κs. search needs) (λ c. search needs) array-read-mean (λ c κs. search needs) (λ c κs. search needs) mul-first ratios-finite-requires returns-2 store-ratios-requires (λ c. search needs) returns-3)

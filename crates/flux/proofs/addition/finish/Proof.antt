@@ -1,23 +1,14 @@
 use mathlib.Core.Path.{sym, _∙_}
-use native.Mathlib.Omega.{arith}
-use borrow.Author.Tests.{not-true, not-false}
-use Rattle.rows.proofs.Laws.{no-row, row-holds, row-passes}
-use Rattle.flux.proofs.Answers.{answer-kept, answer-new, list-kept, list-new}
+use Rattle.flux.proofs.Answers.{answer-kept, answer-new}
 use borrow.Author.Needs.{needs}
 use Rattle.flux.proofs.addition.finish.Statement.{statement}
 use Rattle.flux.proofs.addition.finish.Tie as tie
 
 returns : tie.Need-returns
-returns c =
-    let bad = not-false _ (sym (c .before .before .before .before .before .finite-sums .ensures) ∙ not-true _ (c .before .before .before .before .if1 .taken)) in
-    let ten = sym (row-holds 10 _ bad) in
-    record { answer = answer-kept _ _ ten (λ e. omega arith); list = list-kept _ _ ten (λ e. omega arith); cleared = c .before .before .clear .ensures }
+returns c = let e = c .before .before .before .before .before .store .ensures in record { answer = answer-kept _ _ (e .row) (c .if1 .taken); list = e .list; cleared = e .cleared }
 
 returns-2 : tie.Need-returns-2
-returns-2 c =
-    let good = not-true _ (sym (c .before .before .before .before .before .before .before .before .before .before .finite-sums .ensures) ∙ not-false _ (c .before .before .before .before .before .before .before .before .before .if1 .left)) in
-    let none = sym (row-passes 10 _ good ∙ no-row) in
-    record { answer = answer-new _ _ none; list = list-new _ none (c .before .before .before .before .before .before .copy-from-second-half .ensures); cleared = c .before .before .clear2 .ensures }
+returns-2 c = let e = c .before .before .before .before .before .store .ensures in record { answer = answer-new _ _ (sym (c .if1 .left) ∙ e .row); list = e .list; cleared = e .cleared }
 
 pub finish-spec : {M : Type 1} → statement M
-finish-spec = tie.close (tie.spec (λ c κs. search needs) (λ c κs. search needs) (λ c. search needs) returns (λ c κs. search needs) (λ c κs. search needs) (λ c. search needs) (λ c. search needs) returns-2)
+finish-spec = tie.close (tie.spec (λ c κs. search needs) (λ c. search needs) (λ c. search needs) returns (λ c. search needs) (λ c. search needs) returns-2)

@@ -4,12 +4,10 @@ use mathlib.Core.Path.{_≡_, refl, _∙_}
 use native.Mathlib.Numerals.{add-one}
 use native.Mathlib.Omega.{arith}
 use borrow.Author.Tests.{eq-eqb, ne-eqb}
-use Rattle.geometry.proofs.Shape.{volume-high}
-use Rattle.geometry.proofs.Neighbour.{near-up, near-down, up-down}
+use Rattle.geometry.proofs.Neighbour.{near-up}
 use Rattle.links.specs.Field.{fieldOf}
 use Rattle.gauge.specs.Paired.{matrixOf}
-use Rattle.gauge.proofs.Around.{staplesBy, staple-by}
-use Rattle.gauge.proofs.Fits.{ring}
+use Rattle.gauge.proofs.Around.{staplesBy, staple-by, beside}
 use Rattle.gauge.proofs.staples.staple.Statement.{statement}
 use Rattle.gauge.proofs.staples.staple.Tie as tie
 
@@ -38,41 +36,20 @@ loop-holds c = (omega arith, c .zero-sum .ensures)
 add-add-staples : tie.Need-add-add-staples Inv-loop μ-loop Inv-loop2 μ-loop2
 add-add-staples c =
     let q = c .before .before .before .before .before .before .before .before .pre in
-    let near = c .before .before .before .before .before .neighbours .ensures in
-    let nu = c .before .loop .nu in
-    let mu = c .before .before .before .before .before .before .before .before .args .mu in
-    let taken = c .loop-test .taken in
-    let h : nu < 4 = omega (arith, taken, q .axis) in
-    let ne : nu ≡ mu → ⊥ = λ e. omega (arith, taken) in
-    let k = ring _ _ (q .holds) _ _ _ (q .below) (q .axis) h ne in
-    let side = up-down _ (q .holds .shape) _ _ _ (q .below) (q .axis) h ne in
-    let small = volume-high _ (q .holds .shape) in
-    rw (near, near-up _ _ _ (q .axis), near-down _ _ _ h) (omega (arith, k .ahead, k .back, small))
+    let h : c .before .loop .nu < 4 = omega (arith, c .loop-test .taken, q .axis) in
+    omega (arith, beside q h (λ e. omega (arith, c .loop-test .taken)) (c .before .before .before .before .before .neighbours .ensures) (c .before .before .before .before .before .before .sites .ensures) .small)
 
 sub-add-staples : tie.Need-sub-add-staples Inv-loop μ-loop Inv-loop2 μ-loop2
 sub-add-staples c =
     let q = c .before .before .before .before .before .before .before .before .pre in
-    let near = c .before .before .before .before .before .neighbours .ensures in
-    let nu = c .before .loop .nu in
-    let mu = c .before .before .before .before .before .before .before .before .args .mu in
-    let taken = c .loop-test .taken in
-    let h : nu < 4 = omega (arith, taken, q .axis) in
-    let ne : nu ≡ mu → ⊥ = λ e. omega (arith, taken) in
-    let side = up-down _ (q .holds .shape) _ _ _ (q .below) (q .axis) h ne in
-    rw (near, near-up _ _ _ (q .axis), near-down _ _ _ h) (side .low)
+    let h : c .before .loop .nu < 4 = omega (arith, c .loop-test .taken, q .axis) in
+    beside q h (λ e. omega (arith, c .loop-test .taken)) (c .before .before .before .before .before .neighbours .ensures) (c .before .before .before .before .before .before .sites .ensures) .low
 
 add-staples-requires : tie.Need-add-staples-requires Inv-loop μ-loop Inv-loop2 μ-loop2
 add-staples-requires c κs =
     let q = c .before .before .before .before .before .before .before .before .pre in
-    let near = c .before .before .before .before .before .neighbours .ensures in
-    let nu = c .before .loop .nu in
-    let mu = c .before .before .before .before .before .before .before .before .args .mu in
-    let taken = c .loop-test .taken in
-    let h : nu < 4 = omega (arith, taken, q .axis) in
-    let ne : nu ≡ mu → ⊥ = λ e. omega (arith, taken) in
-    let k = ring _ _ (q .holds) _ _ _ (q .below) (q .axis) h ne in
-    let side = up-down _ (q .holds .shape) _ _ _ (q .below) (q .axis) h ne in
-    rw (near, near-up _ _ _ (q .axis), near-down _ _ _ h, near-up _ _ _ h, side .is, c .before .before .before .before .before .before .sites .ensures) k
+    let h : c .before .loop .nu < 4 = omega (arith, c .loop-test .taken, q .axis) in
+    beside q h (λ e. omega (arith, c .loop-test .taken)) (c .before .before .before .before .before .neighbours .ensures) (c .before .before .before .before .before .before .sites .ensures) .sites
 
 loop-again : tie.Need-loop-again Inv-loop μ-loop Inv-loop2 μ-loop2
 unfolding staplesBy
@@ -95,42 +72,18 @@ loop2-holds c =
 
 add-add-staples-2 : tie.Need-add-add-staples-2 Inv-loop μ-loop Inv-loop2 μ-loop2
 add-add-staples-2 c =
-    let q = c .before .before .before .before .before .before .before .before .before .before .pre in
-    let near = c .before .before .before .before .before .before .before .neighbours .ensures in
-    let nu = c .before .loop2 .nu in
-    let mu = c .before .before .before .before .before .before .before .before .before .before .args .mu in
-    let taken = c .loop2-test .taken in
-    let h : nu < 4 = omega (arith, taken) in
-    let ne : nu ≡ mu → ⊥ = λ e. omega (arith, c .before .loop2 .inv .0) in
-    let k = ring _ _ (q .holds) _ _ _ (q .below) (q .axis) h ne in
-    let side = up-down _ (q .holds .shape) _ _ _ (q .below) (q .axis) h ne in
-    let small = volume-high _ (q .holds .shape) in
-    rw (near, near-up _ _ _ (q .axis), near-down _ _ _ h) (omega (arith, k .ahead, k .back, small))
+    let h : c .before .loop2 .nu < 4 = omega (arith, c .loop2-test .taken) in
+    omega (arith, beside (c .before .before .before .before .before .before .before .before .before .before .pre) h (λ e. omega (arith, c .before .loop2 .inv .0)) (c .before .before .before .before .before .before .before .neighbours .ensures) (c .before .before .before .before .before .before .before .before .sites .ensures) .small)
 
 sub-add-staples-2 : tie.Need-sub-add-staples-2 Inv-loop μ-loop Inv-loop2 μ-loop2
 sub-add-staples-2 c =
-    let q = c .before .before .before .before .before .before .before .before .before .before .pre in
-    let near = c .before .before .before .before .before .before .before .neighbours .ensures in
-    let nu = c .before .loop2 .nu in
-    let mu = c .before .before .before .before .before .before .before .before .before .before .args .mu in
-    let taken = c .loop2-test .taken in
-    let h : nu < 4 = omega (arith, taken) in
-    let ne : nu ≡ mu → ⊥ = λ e. omega (arith, c .before .loop2 .inv .0) in
-    let side = up-down _ (q .holds .shape) _ _ _ (q .below) (q .axis) h ne in
-    rw (near, near-up _ _ _ (q .axis), near-down _ _ _ h) (side .low)
+    let h : c .before .loop2 .nu < 4 = omega (arith, c .loop2-test .taken) in
+    beside (c .before .before .before .before .before .before .before .before .before .before .pre) h (λ e. omega (arith, c .before .loop2 .inv .0)) (c .before .before .before .before .before .before .before .neighbours .ensures) (c .before .before .before .before .before .before .before .before .sites .ensures) .low
 
 add-staples-requires-2 : tie.Need-add-staples-requires-2 Inv-loop μ-loop Inv-loop2 μ-loop2
 add-staples-requires-2 c κs =
-    let q = c .before .before .before .before .before .before .before .before .before .before .pre in
-    let near = c .before .before .before .before .before .before .before .neighbours .ensures in
-    let nu = c .before .loop2 .nu in
-    let mu = c .before .before .before .before .before .before .before .before .before .before .args .mu in
-    let taken = c .loop2-test .taken in
-    let h : nu < 4 = omega (arith, taken) in
-    let ne : nu ≡ mu → ⊥ = λ e. omega (arith, c .before .loop2 .inv .0) in
-    let k = ring _ _ (q .holds) _ _ _ (q .below) (q .axis) h ne in
-    let side = up-down _ (q .holds .shape) _ _ _ (q .below) (q .axis) h ne in
-    rw (near, near-up _ _ _ (q .axis), near-down _ _ _ h, near-up _ _ _ h, side .is, c .before .before .before .before .before .before .before .before .sites .ensures) k
+    let h : c .before .loop2 .nu < 4 = omega (arith, c .loop2-test .taken) in
+    beside (c .before .before .before .before .before .before .before .before .before .before .pre) h (λ e. omega (arith, c .before .loop2 .inv .0)) (c .before .before .before .before .before .before .before .neighbours .ensures) (c .before .before .before .before .before .before .before .before .sites .ensures) .sites
 
 loop2-again : tie.Need-loop2-again Inv-loop μ-loop Inv-loop2 μ-loop2
 unfolding staplesBy

@@ -9,7 +9,7 @@ use Rattle.geometry.proofs.Shape.{volume-high}
 use Rattle.geometry.proofs.Order.{halves}
 use Rattle.sweep.specs.Jobs.{InRange}
 use Rattle.sweep.proofs.Laws.{frame-refused, frame-accepted}
-use Rattle.sweep.proofs.Joined.{frame-segment, frame-count}
+use Rattle.sweep.proofs.FrameSites.{frame-segment, frame-count}
 use borrow.Author.Needs.{needs}
 use Rattle.sweep.proofs.frames.frame_overrelax.Statement.{statement}
 use Rattle.sweep.proofs.frames.frame_overrelax.Tie as tie

@@ -1,0 +1,3 @@
+pub mod Contraction
+pub mod Quarks
+pub mod Staircases

@@ -1,0 +1,23 @@
+-- A list of three or four is its elements.
+use Prim.Native.Nat.{ℕ}
+use mathlib.Core.List.{List, [], _∷_}
+use mathlib.Core.Path.{_≡_, refl}
+use native.Mathlib.Omega.{arith}
+use lib.ListN.{length, getD}
+
+-- z is what is read past the end
+module _ {A : Type 0} (z : A) where
+  pub three-are : (l : List A) → length l ≡ 3 → l ≡ getD l 0 z ∷ getD l 1 z ∷ getD l 2 z ∷ []
+  three-are [] h = absurd (omega arith)
+  three-are (a ∷ []) h = absurd (omega arith)
+  three-are (a ∷ b ∷ []) h = absurd (omega arith)
+  three-are (a ∷ b ∷ c ∷ []) h = refl
+  three-are (a ∷ b ∷ c ∷ d ∷ l) h = absurd (omega arith)
+
+  pub four-are : (l : List A) → length l ≡ 4 → l ≡ getD l 0 z ∷ getD l 1 z ∷ getD l 2 z ∷ getD l 3 z ∷ []
+  four-are [] h = absurd (omega arith)
+  four-are (a ∷ []) h = absurd (omega arith)
+  four-are (a ∷ b ∷ []) h = absurd (omega arith)
+  four-are (a ∷ b ∷ c ∷ []) h = absurd (omega arith)
+  four-are (a ∷ b ∷ c ∷ d ∷ []) h = refl
+  four-are (a ∷ b ∷ c ∷ d ∷ e ∷ l) h = absurd (omega arith)

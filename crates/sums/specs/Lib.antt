@@ -1,0 +1,3 @@
+-- `Means` has means over the samples, `Ending` what is stored of an addition.
+pub mod Means
+pub mod Ending
