@@ -13,7 +13,7 @@ use mathlib.Core.List.{List}
 use lib.ListN.{length, take}
 use Rattle.io.specs.Counts.{Counts}
 use Rattle.io.specs.Digits.{digits}
-use Rattle.ascii.specs.Lines.{placesOf, decimalOf, wordOf, lineOf}
+use Rattle.ascii.specs.Lines.{placesOf, decimalOf, wordOf, textLine}
 use Rattle.ascii.specs.Laid.{Laid}
 use Rattle.ascii.proofs.Laws.{length-line}
 
@@ -82,9 +82,9 @@ no-nan (inf s) h = tt
 no-nan (fin s m e) h = tt
 
 -- the line of digits that were put at the start of a list
-module _ {at end : ℕ} {old new : List ℕ} (name : List ℕ) (r : ℕ) (out : List ℕ) (counts : Counts r out) (laid : Laid at (lineOf name (take r out)) old end new) where
+module _ {at end : ℕ} {old new : List ℕ} (name : List ℕ) (r : ℕ) (out : List ℕ) (counts : Counts r out) (laid : Laid at (textLine name (take r out)) old end new) where
   pub decimal-line : (n : ℕ) → n < 2 ^ 64 → Fewest 10 1 n r → take r out ≡ digits 10 r n
-      → Laid at (lineOf name (decimalOf n)) old end new × (end ≤ at + length name + 22)
+      → Laid at (textLine name (decimalOf n)) old end new × (end ≤ at + length name + 22)
   unfolding decimalOf
   decimal-line n small f e =
       let most = twenty n r small f in
@@ -92,9 +92,9 @@ module _ {at end : ℕ} {old new : List ℕ} (name : List ℕ) (r : ℕ) (out : 
       (rw (← places-fewest 19 n r (omega arith) f, ← e) laid, omega (arith, laid .next, counts .1))
 
   pub word-line : (n : ℕ) → n < 2 ^ 64 → Fewest 16 16 n r → take r out ≡ digits 16 r n
-      → Laid at (lineOf name (wordOf n)) old end new × (end ≡ at + length name + 18)
+      → Laid at (textLine name (wordOf n)) old end new × (end ≡ at + length name + 18)
   unfolding wordOf
   word-line n small f e =
       let same = sixteen n r small f in
       let long = length-line name (take r out) in
-      (subst (λ v. Laid at (lineOf name v) old end new) (e ∙ ap (λ k. digits 16 k n) same) laid, omega (arith, laid .next, counts .1))
+      (subst (λ v. Laid at (textLine name v) old end new) (e ∙ ap (λ k. digits 16 k n) same) laid, omega (arith, laid .next, counts .1))

@@ -7,7 +7,7 @@ use native.Mathlib.Nat.{add-assoc}
 use native.Mathlib.Numerals.{add-one}
 use lib.ListN.{length, take, drop, set, getD, length-append}
 use lib.Seq.{paste, paste-zero, paste-suc, take-at, drop-at, take-length, drop-drop, length-take-le}
-use Rattle.ascii.specs.Lines.{lineOf}
+use Rattle.ascii.specs.Lines.{textLine}
 use Rattle.ascii.specs.Laid.{laidAt, Laid}
 
 -- ## the first n bytes laid
@@ -58,6 +58,6 @@ at-front bytes old laid = let e : 0 + length bytes ≡ length bytes = omega arit
 
 -- ## a line
 
-pub length-line : (name value : List ℕ) → length (lineOf name value) ≡ length name + length value + 2
-unfolding lineOf
+pub length-line : (name value : List ℕ) → length (textLine name value) ≡ length name + length value + 2
+unfolding textLine
 length-line name value = rw (length-append, length-append, length-append) (omega arith)

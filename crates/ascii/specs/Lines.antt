@@ -34,5 +34,5 @@ unfoldable pub bitsOf : Float → List ℕ
 bitsOf x = wordOf (toBits binary64 x)
 
 -- a name, a space, a value, and the line's end
-unfoldable pub lineOf : List ℕ → List ℕ → List ℕ
-lineOf name value = name ++ ascii " " ++ value ++ ascii "\n"
+unfoldable pub textLine : List ℕ → List ℕ → List ℕ
+textLine name value = name ++ ascii " " ++ value ++ ascii "\n"
