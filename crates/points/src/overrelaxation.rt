@@ -116,15 +116,23 @@ fn after_frame(t: Tally, label: &[u8], job: Job, visited: u64, all: u64) -> Tall
     t.whole(b"finished ", finished(job), all)
 }
 
-// Frames of 3, 0 and 9 sites in one half-sweep of a cold field of 16 sites.
+// Frames of 3, 0 and 9 sites in one half-sweep of a cold field of 16 sites, and between the first two
+// one that is lent a shorter list.
 fn frames(t: Tally) -> Tally {
     let mut links = [0.0; 1152];
     let cold = lattice::cold([2, 2, 2, 2], 6.0, 0, &mut links);
     let opened = sweep::open_overrelax(cold.plan, 0, 0);
     let first = sweep::frame_overrelax(opened.job, 3, &mut links);
-    let second = sweep::frame_overrelax(first.job, 0, &mut links);
+    let mut short = [0.0; 1151];
+    let refused = sweep::frame_overrelax(first.job, 5, &mut short);
+    let second = sweep::frame_overrelax(refused.job, 0, &mut links);
     let third = sweep::frame_overrelax(second.job, 9, &mut links);
     let t = after_frame(t, b"frame-3 ", first.job, 3, 0);
+    let t = t.whole(
+        b"row that refuses a frame on 1151 numbers ",
+        refused.refusal as u64,
+        3,
+    );
     let t = after_frame(t, b"frame-0 ", second.job, 3, 0);
     let last = third.job;
     let t = after_frame(t, b"frame-9 ", last, 8, 1);
