@@ -162,8 +162,8 @@ uint32_t jj_bwd(const size_t ext[4], size_t site, size_t mu, size_t out[1]);
 
 /* ---- field: n is the length of links */
 
-/* Cold start: every link becomes the identity. The plan is these extents, coupling and seed, with pass 0; the seed may be
- * anything, and leaves nothing in the list. Rows 1, 2, 3. */
+/* Cold start: every link becomes the identity. The coupling is judged and not otherwise read; the seed may be anything,
+ * and leaves nothing in the list. A host keeps both, and a pass that begins at 0, for the calls below. Rows 1, 2, 3. */
 uint32_t jj_cold(const size_t ext[4], double coupling, uint64_t seed, double *links, size_t n);
 
 /* out = the plaquette of directions mu, then nu, at a site. Rows 1, 3, 4, 5, 10. */
@@ -306,8 +306,8 @@ uint32_t jj_add(uint64_t counts[6], const int32_t offsets[9], double sums[5], co
 /* out = w / samples. Rows 1, 11, 13, 14, 10. */
 uint32_t jj_mean_loop(const uint64_t counts[6], const int32_t offsets[9], const double sums[5], double out[1]);
 
-/* list = for each offset r, the grid's number over samples, over (w / samples) (sk / samples). Row 14 where that product
+/* list = for each offset r, the grid's number of density k over samples, over (w / samples) (sk / samples). Row 14 where that product
  * is 0: there is no correlation to be shown then. Refused, the list is as it was. Rows 1, 3, 11, 13, 14, 10. */
-uint32_t jj_correlation(const uint64_t counts[6], const int32_t offsets[9], const double sums[5], uint32_t density, const double *grid, size_t g, double *list, size_t m);
+uint32_t jj_correlation(const uint64_t counts[6], const int32_t offsets[9], const double sums[5], uint32_t k, const double *grid, size_t g, double *list, size_t m);
 
 #endif

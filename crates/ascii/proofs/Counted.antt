@@ -13,7 +13,7 @@ use mathlib.Core.List.{List}
 use lib.ListN.{length, take}
 use Rattle.io.specs.Counts.{Counts}
 use Rattle.io.specs.Digits.{digits}
-use Rattle.ascii.specs.Lines.{placesOf, decimalOf, wordOf, textLine}
+use Rattle.ascii.specs.Lines.{placesOf, decimalText, hexText, textLine}
 use Rattle.ascii.specs.Laid.{Laid}
 use Rattle.ascii.proofs.Laws.{length-line}
 
@@ -84,16 +84,16 @@ no-nan (fin s m e) h = tt
 -- the line of digits that were put at the start of a list
 module _ {at end : ℕ} {old new : List ℕ} (name : List ℕ) (r : ℕ) (out : List ℕ) (counts : Counts r out) (laid : Laid at (textLine name (take r out)) old end new) where
   pub decimal-line : (n : ℕ) → n < 2 ^ 64 → Fewest 10 1 n r → take r out ≡ digits 10 r n
-      → Laid at (textLine name (decimalOf n)) old end new × (end ≤ at + length name + 22)
-  unfolding decimalOf
+      → Laid at (textLine name (decimalText n)) old end new × (end ≤ at + length name + 22)
+  unfolding decimalText
   decimal-line n small f e =
       let most = twenty n r small f in
       let long = length-line name (take r out) in
       (rw (← places-fewest 19 n r (omega arith) f, ← e) laid, omega (arith, laid .next, counts .1))
 
   pub word-line : (n : ℕ) → n < 2 ^ 64 → Fewest 16 16 n r → take r out ≡ digits 16 r n
-      → Laid at (textLine name (wordOf n)) old end new × (end ≡ at + length name + 18)
-  unfolding wordOf
+      → Laid at (textLine name (hexText n)) old end new × (end ≡ at + length name + 18)
+  unfolding hexText
   word-line n small f e =
       let same = sixteen n r small f in
       let long = length-line name (take r out) in

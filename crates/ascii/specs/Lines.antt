@@ -22,16 +22,16 @@ placesOf zero n = 1
 placesOf (suc k) n = cond (ltb n 10) 1 (placesOf k (n / 10) + 1)
 
 -- a number below 2 ^ 64 in decimal: 20 digits at most
-unfoldable pub decimalOf : ℕ → List ℕ
-decimalOf n = digits 10 (placesOf 19 n) n
+unfoldable pub decimalText : ℕ → List ℕ
+decimalText n = digits 10 (placesOf 19 n) n
 
 -- a number below 2 ^ 64 in 16 hexadecimal digits
-unfoldable pub wordOf : ℕ → List ℕ
-wordOf n = digits 16 16 n
+unfoldable pub hexText : ℕ → List ℕ
+hexText n = digits 16 16 n
 
 -- the bits of an f64
-unfoldable pub bitsOf : Float → List ℕ
-bitsOf x = wordOf (toBits binary64 x)
+unfoldable pub numberText : Float → List ℕ
+numberText x = hexText (toBits binary64 x)
 
 -- a name, a space, a value, and the line's end
 unfoldable pub textLine : List ℕ → List ℕ → List ℕ

@@ -5,7 +5,7 @@ ghost use mathlib.Core.Bool.{true};
 ghost use mathlib.Core.Path.{_≡_};
 ghost use lib.Ieee.Scale.{finite};
 ghost use lib.ListN.{length};
-ghost use Rattle.ascii.specs.Lines.{decimalOf, wordOf, bitsOf, textLine};
+ghost use Rattle.ascii.specs.Lines.{decimalText, hexText, numberText, textLine};
 ghost use Rattle.ascii.specs.Laid.{Laid};
 
 // Bytes as they are.
@@ -33,7 +33,7 @@ fn line(text: &mut [u8], at: usize, name: &[u8], value: &[u8]) -> usize
 // A count in decimal.
 pub fn count_line(text: &mut [u8], at: usize, name: &[u8], n: u64) -> usize
     requires { ⌜ at + length (now name) + 22 ≤ length (now text) ⌝ }
-    ensures { λ r. ⌜ Laid at (textLine (now (name .entry)) (decimalOf n)) (now (text .entry)) r (now (text .exit)) ⌝ }
+    ensures { λ r. ⌜ Laid at (textLine (now (name .entry)) (decimalText n)) (now (text .entry)) r (now (text .exit)) ⌝ }
     ensures { λ r. ⌜ r ≤ at + length (now (name .entry)) + 22 ⌝ }
 {
     let mut digits = [0u8; 20];
@@ -44,7 +44,7 @@ pub fn count_line(text: &mut [u8], at: usize, name: &[u8], n: u64) -> usize
 // A word in 16 hexadecimal digits.
 fn word_line(text: &mut [u8], at: usize, name: &[u8], n: u64) -> usize
     requires { ⌜ at + length (now name) + 18 ≤ length (now text) ⌝ }
-    ensures { λ r. ⌜ Laid at (textLine (now (name .entry)) (wordOf n)) (now (text .entry)) r (now (text .exit)) ⌝ }
+    ensures { λ r. ⌜ Laid at (textLine (now (name .entry)) (hexText n)) (now (text .entry)) r (now (text .exit)) ⌝ }
     ensures { λ r. ⌜ r ≡ at + length (now (name .entry)) + 18 ⌝ }
 {
     let mut digits = [0u8; 16];
@@ -56,7 +56,7 @@ fn word_line(text: &mut [u8], at: usize, name: &[u8], n: u64) -> usize
 pub fn number_line(text: &mut [u8], at: usize, name: &[u8], x: f64) -> usize
     requires { ⌜ at + length (now name) + 18 ≤ length (now text) ⌝ }
     requires { ⌜ finite x ≡ true ⌝ }
-    ensures { λ r. ⌜ Laid at (textLine (now (name .entry)) (bitsOf x)) (now (text .entry)) r (now (text .exit)) ⌝ }
+    ensures { λ r. ⌜ Laid at (textLine (now (name .entry)) (numberText x)) (now (text .entry)) r (now (text .exit)) ⌝ }
     ensures { λ r. ⌜ r ≡ at + length (now (name .entry)) + 18 ⌝ }
 {
     word_line(text, at, name, f64::to_bits(x))

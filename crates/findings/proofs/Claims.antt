@@ -15,7 +15,7 @@ use Rattle.lattice.specs.Situations.{badExtents}
 use Rattle.lattice.proofs.Frozen.{every-link-is-identity}
 use Rattle.findings.specs.Findings.{Small, coldField, findingsOf}
 use Rattle.findings.specs.Columns.{Finite, badInput, badSites, inputRows, fieldLines, frameLines, columnsOf}
-use Rattle.ascii.specs.Lines.{placesOf, decimalOf, wordOf, bitsOf, textLine}
+use Rattle.ascii.specs.Lines.{placesOf, decimalText, hexText, numberText, textLine}
 use Rattle.findings.specs.Claims.{coldFindings, FindingsAreCold, TextOfFour}
 use Rattle.findings.proofs.Cold.{average-one, action-zero, loop-one, baryon-one}
 use Rattle.findings.proofs.Visits.{frames-cold}
@@ -45,5 +45,5 @@ unfolding firstRow badInput badExtents badSites volume fitsOf extentTest allBelo
 twos-pass = refl
 
 pub text-of-four : TextOfFour
-unfolding columnsOf ifAccepted coldFindings fieldLines frameLines textLine decimalOf placesOf bitsOf wordOf toBits ofBits ofFields volume halfOf
+unfolding columnsOf ifAccepted coldFindings fieldLines frameLines textLine decimalText placesOf numberText hexText toBits ofBits ofFields volume halfOf
 text-of-four = rw (twos-pass, findings-are-cold twos twos-small)

@@ -17,7 +17,7 @@ use Rattle.geometry.proofs.Shape.{fits-shape}
 use Rattle.lattice.specs.Situations.{badExtents}
 use Rattle.lattice.specs.Rows.{extentsRows}
 use Rattle.io.specs.Counts.{Counts}
-use Rattle.ascii.specs.Lines.{ascii, decimalOf, textLine}
+use Rattle.ascii.specs.Lines.{ascii, decimalText, textLine}
 use Rattle.ascii.specs.Laid.{Laid}
 use Rattle.ascii.proofs.Laws.{at-front}
 use Rattle.findings.specs.declared.Findings.{Findings}
@@ -99,11 +99,11 @@ module _ (bytes old : List ℕ) {r : ℕ} {new : List ℕ} where
       let same : linesOf f ≡ columnsOf bytes = rw e (sym (if-accepted _ _ none)) in
       record { count = front .0 ∙ ap length same; text = front .1 ∙ ap (λ t. t ++ drop r old) same }
 
-  pub refusal-printed : {k : ℕ} → (k ≡ firstRow (inputRows bytes)) × (firstRow (inputRows bytes) ≡ 0 → ⊥) → Laid 0 (textLine (ascii "refused") (decimalOf k)) old r new → ColumnsCall bytes old r new
+  pub refusal-printed : {k : ℕ} → (k ≡ firstRow (inputRows bytes)) × (firstRow (inputRows bytes) ≡ 0 → ⊥) → Laid 0 (textLine (ascii "refused") (decimalText k)) old r new → ColumnsCall bytes old r new
   unfolding columnsOf
   refusal-printed {k} row laid =
-      let front = at-front (textLine (ascii "refused") (decimalOf k)) old laid in
-      let same : textLine (ascii "refused") (decimalOf k) ≡ columnsOf bytes = rw (row .0) (sym (if-refused _ _ _ (row .1))) in
+      let front = at-front (textLine (ascii "refused") (decimalText k)) old laid in
+      let same : textLine (ascii "refused") (decimalText k) ≡ columnsOf bytes = rw (row .0) (sym (if-refused _ _ _ (row .1))) in
       record { count = front .0 ∙ ap length same; text = front .1 ∙ ap (λ t. t ++ drop r old) same }
 
 -- the text's bytes can be cut off

@@ -10,7 +10,7 @@ use Rattle.rows.specs.Rows.{firstRow, ifAccepted}
 use Rattle.geometry.specs.Radix.{volume}
 use Rattle.lattice.specs.Rows.{Rows}
 use Rattle.lattice.specs.Situations.{badExtents}
-use Rattle.ascii.specs.Lines.{ascii, decimalOf, bitsOf, textLine}
+use Rattle.ascii.specs.Lines.{ascii, decimalText, numberText, textLine}
 use Rattle.findings.specs.declared.Findings.{Findings}
 use Rattle.findings.specs.declared.field.Frames.{Frames}
 use Rattle.findings.specs.Findings.{findingsOf}
@@ -29,19 +29,19 @@ inputRows bytes = (badInput bytes, 15) ∷ (badExtents bytes, 1) ∷ (badSites b
 -- the columns: name and finding
 unfoldable pub fieldLines : Findings → List ℕ
 fieldLines f =
-    textLine (ascii "sites") (decimalOf (f .sites))
-    ++ textLine (ascii "plaquette") (bitsOf (f .plaquette))
-    ++ textLine (ascii "action") (bitsOf (f .action))
-    ++ textLine (ascii "loop-re") (bitsOf (f .re))
-    ++ textLine (ascii "loop-im") (bitsOf (f .im))
-    ++ textLine (ascii "baryon") (bitsOf (f .baryon))
+    textLine (ascii "sites") (decimalText (f .sites))
+    ++ textLine (ascii "plaquette") (numberText (f .plaquette))
+    ++ textLine (ascii "action") (numberText (f .action))
+    ++ textLine (ascii "loop-re") (numberText (f .re))
+    ++ textLine (ascii "loop-im") (numberText (f .im))
+    ++ textLine (ascii "baryon") (numberText (f .baryon))
 
 unfoldable pub frameLines : Frames → List ℕ
 frameLines f =
-    textLine (ascii "frame-3") (decimalOf (f .frame3))
-    ++ textLine (ascii "frame-0") (decimalOf (f .frame0))
-    ++ textLine (ascii "frame-9") (decimalOf (f .frame9))
-    ++ textLine (ascii "stuck") (decimalOf (f .stuck))
+    textLine (ascii "frame-3") (decimalText (f .frame3))
+    ++ textLine (ascii "frame-0") (decimalText (f .frame0))
+    ++ textLine (ascii "frame-9") (decimalText (f .frame9))
+    ++ textLine (ascii "stuck") (decimalText (f .stuck))
 
 abbrev pub linesOf : Findings → List ℕ
 linesOf f = fieldLines f ++ frameLines (f .frames)
@@ -50,7 +50,7 @@ linesOf f = fieldLines f ++ frameLines (f .frames)
 unfoldable pub columnsOf : List ℕ → List ℕ
 columnsOf bytes =
     let row = firstRow (inputRows bytes) in
-    ifAccepted row (linesOf (findingsOf bytes)) (textLine (ascii "refused") (decimalOf row))
+    ifAccepted row (linesOf (findingsOf bytes)) (textLine (ascii "refused") (decimalText row))
 
 -- the answer, how many bytes there are; and the list, with these at its front and later places as they were
 pub record ColumnsCall (bytes old : List ℕ) (r : ℕ) (new : List ℕ) : Type 0 where

@@ -17,7 +17,7 @@ pub struct Frames {
 // One step along x, y and z: one quark each.
 const QUARKS: [i32; 9] = [1, 0, 0, 0, 1, 0, 0, 0, 1];
 
-// A half-sweep of direction 0 and parity 0, not run to its end.
+// The first frames of a half-sweep of direction 0 and parity 0.
 fn half_sweep(plan: Plan, links: &mut [f64]) -> Frames
     ensures { λ r. ⌜ r ≡ framesOf plan (now (links .entry)) ⌝ }
 {
@@ -37,7 +37,8 @@ fn half_sweep(plan: Plan, links: &mut [f64]) -> Frames
     }
 }
 
-// The list is lent for the field's links, and may hold anything before.
+// Makes the field cold, and measures. The list is lent for its links, and may hold anything before and
+// after.
 pub fn measure(extents: [usize; 4], sites: usize, links: &mut [f64]) -> Findings
     requires { ⌜ Small extents ⌝ }
     requires { ⌜ sites ≡ volume extents ⌝ }

@@ -86,7 +86,7 @@ fn put_findings(text: &mut [u8], f: Findings) -> usize
 }
 
 // Room for the links of 64 sites.
-fn space() -> [f64; 4608]
+fn room() -> [f64; 4608]
     ensures { λ r. ⌜ 4608 ≡ length r ⌝ }
 {
     [0.0; 4608]
@@ -98,7 +98,7 @@ fn found(extents: [usize; 4], sites: usize) -> Findings
     requires { ⌜ sites ≡ volume extents ⌝ }
     ensures { λ r. ⌜ r ≡ findingsOf extents ⌝ }
 {
-    let mut links = space();
+    let mut links = room();
     let n = 72 * sites;
     measure(extents, sites, &mut links[..n])
 }

@@ -46,7 +46,6 @@ fn col_col(a: Su3, b: Su3, i: usize, j: usize) -> C64
     s
 }
 
-// Nine calls, not loops over i and j: these are twice as fast.
 // a·b, as `mul` has it: a function with one caller, which the compiler puts into the series' loop, where a
 // call would copy three matrices a turn.
 pub fn times(a: Su3, b: Su3) -> Su3

@@ -1,5 +1,5 @@
 use borrow.Author.Needs.{needs}
-use Rattle.ascii.specs.Lines.{bitsOf}
+use Rattle.ascii.specs.Lines.{numberText}
 use Rattle.ascii.proofs.Counted.{no-nan}
 use Rattle.ascii.proofs.number_line.Statement.{statement}
 use Rattle.ascii.proofs.number_line.Tie as tie
@@ -8,7 +8,7 @@ float-to-bits-word-line : tie.Need-float-to-bits-word-line
 float-to-bits-word-line c = no-nan _ (c .before .before .before .pre .1)
 
 returns : tie.Need-returns
-unfolding bitsOf
+unfolding numberText
 returns c = c .before .before .word-line .ensures
 
 pub number-line-spec : {M : Type 1} → statement M

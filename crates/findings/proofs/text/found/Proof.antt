@@ -7,10 +7,10 @@ use Rattle.findings.proofs.text.found.Statement.{statement}
 use Rattle.findings.proofs.text.found.Tie as tie
 
 slice-aggregate-measure : tie.Need-slice-aggregate-measure
-slice-aggregate-measure c = let e = c .before .space .ensures in let few = c .before .before .pre .0 .few in let same = c .before .before .pre .1 in sym (length-take-le _ _ (omega arith))
+slice-aggregate-measure c = let e = c .before .room .ensures in let few = c .before .before .pre .0 .few in let same = c .before .before .pre .1 in sym (length-take-le _ _ (omega arith))
 
 measure-requires : tie.Need-measure-requires
-measure-requires c κs = let e = c .before .space .ensures in let few = c .before .before .pre .0 .few in let same = c .before .before .pre .1 in (c .before .before .pre .0, (same, length-take-le (72 * c .before .before .args .sites) (c .before .space .result) (omega arith) ∙ ap (λ n. 72 * n) same))
+measure-requires c κs = let e = c .before .room .ensures in let few = c .before .before .pre .0 .few in let same = c .before .before .pre .1 in (c .before .before .pre .0, (same, length-take-le (72 * c .before .before .args .sites) (c .before .room .result) (omega arith) ∙ ap (λ n. 72 * n) same))
 
 pub found-spec : {M : Type 1} → statement M
 found-spec = tie.close (tie.spec (λ c κs. search needs) (λ c. search needs) (λ c. search needs) slice-aggregate-measure measure-requires (λ c. search needs))
