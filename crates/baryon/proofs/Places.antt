@@ -19,7 +19,7 @@ use Rattle.geometry.proofs.Range.{fill-front}
 use Rattle.stairs.specs.declared.Step.{Step}
 use Rattle.stairs.specs.Offsets.{badOffsets}
 use Rattle.stairs.specs.Staircase.{Near, placeAt, stepAt, stepsTo, staircaseOf}
-use Rattle.stairs.proofs.Climb.{near, place-next, step-is, steps-low}
+use Rattle.stairs.proofs.Places.{near, place-next, step-is, steps-low}
 use Rattle.baryon.specs.declared.Stair.{Stair}
 use Rattle.baryon.specs.Situations.{badStepRoom, stairRows}
 use Rattle.baryon.specs.Climb.{stairOpened, stairNext, stairAt}
