@@ -1,7 +1,6 @@
 use mathlib.Core.Path.{_≡_, refl, ap, sym, _∙_}
 use mathlib.Core.Logic.{⊎-elim}
-use Rattle.stairs.specs.Best.{nearerOf, noneFound}
-use Rattle.stairs.proofs.Best.{nearer-left, nearer-none, best-of}
+use Rattle.stairs.proofs.Best.{nearerOf, noneFound, nearer-left, nearer-none, best-of}
 use borrow.Author.Needs.{needs}
 use Rattle.stairs.proofs.line.best_axis.Statement.{statement}
 use Rattle.stairs.proofs.line.best_axis.Tie as tie
