@@ -67,9 +67,9 @@ use Rattle.baryon.specs.declared.Stair.{Stair}
 use Rattle.baryon.proofs.Stair as S
 use Rattle.baryon.proofs.Stair.Laws as S′
 use Rattle.stairs.specs.Staircase.{Near}
-use Rattle.baryon.specs.Climb.{stairOpened, stairNext, stairAt}
+use Rattle.baryon.specs.Climb.{stairOpened, stairNext}
 use Rattle.baryon.specs.Calls.{StaircaseCall}
-use Rattle.baryon.proofs.Places.{count-kept, place-near, room-enough, staircase-answered}
+use Rattle.baryon.proofs.Places.{stairAt, count-kept, place-near, room-enough, staircase-answered}
 use Rattle.baryon.proofs.climb.stair_open as opens
 use Rattle.baryon.proofs.climb.stair_open.Symbol as open-def
 use Rattle.baryon.proofs.climb.stair_open.Symbol.{name as #open}

@@ -57,9 +57,9 @@ use Rattle.stairs.proofs.Step.Laws as T′
 use Rattle.baryon.specs.declared.PathAnswer.{PathAnswer}
 use Rattle.baryon.proofs.PathAnswer as S
 use Rattle.baryon.proofs.PathAnswer.Laws as S′
-use Rattle.baryon.specs.Walk.{Walkable, openedOf, steppedOf, closedOf, walkedBy}
+use Rattle.baryon.specs.Walk.{Walkable, openedOf, steppedOf, closedOf}
 use Rattle.baryon.specs.Calls.{pathCall}
-use Rattle.baryon.proofs.Paths.{opened-walkable, stepped-walkable, path-answered}
+use Rattle.baryon.proofs.Paths.{walkedBy, opened-walkable, stepped-walkable, path-answered}
 use Rattle.baryon.proofs.walk.path_open as opens
 use Rattle.baryon.proofs.walk.path_open.Symbol as open-def
 use Rattle.baryon.proofs.walk.path_open.Symbol.{name as #open}
