@@ -19,8 +19,8 @@ use Rattle.stairs.specs.declared.Stairs.{Stairs}
 use Rattle.stairs.specs.Staircase.{stepAt, stepsTo, staircaseOf, stairsOf, noStep}
 use Rattle.baryon.specs.declared.PathAnswer.{PathAnswer}
 use Rattle.baryon.specs.Calls.{pathCall}
-use Rattle.baryon.specs.Walk.{openedOf, steppedOf, closedOf, walkedBy}
-use Rattle.baryon.proofs.Paths.{path-answered}
+use Rattle.baryon.specs.Walk.{openedOf, steppedOf, closedOf}
+use Rattle.baryon.proofs.Paths.{walkedBy, path-answered}
 use Rattle.baryon.specs.Codes.{codeOf, stepOfCode, codesRow, CodesCall}
 
 pub code-forward : (s : Step) → s .forward ≡ true → 2 * s .axis + 1 ≡ codeOf s

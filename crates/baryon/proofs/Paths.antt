@@ -28,7 +28,7 @@ use Rattle.paths.proofs.Walks.{spot-site, step-below}
 use Rattle.baryon.specs.declared.PathAnswer.{PathAnswer}
 use Rattle.baryon.specs.Situations.{badAxes, openRows, lineRows}
 use Rattle.baryon.specs.Calls.{pathAnswer, pathCall, lineCall}
-use Rattle.baryon.specs.Walk.{Walkable, transporterOf, openedOf, steppedOf, closedOf, walkedBy}
+use Rattle.baryon.specs.Walk.{Walkable, transporterOf, openedOf, steppedOf, closedOf}
 
 abbrev refusedBy : ℕ → PathAnswer
 refusedBy row = record { refusal = row; matrix = zeroOf; site = 0 }
@@ -100,6 +100,11 @@ unfolding closedOf
 closed-judged w ok e = e ∙ sym (if-accepted _ w ok)
 
 -- ## the answer
+
+-- all the steps, in order
+unfoldable pub walkedBy : List ℕ → List Float → PathAnswer → List Step → PathAnswer
+walkedBy d l w [] = w
+walkedBy d l w (s ∷ steps) = walkedBy d l (steppedOf d l w s) steps
 
 module _ (d : List ℕ) (l : List Float) where
   abbrev U : Field

@@ -19,11 +19,16 @@ use Rattle.geometry.proofs.Range.{fill-front}
 use Rattle.stairs.specs.declared.Step.{Step}
 use Rattle.stairs.specs.Offsets.{badOffsets}
 use Rattle.stairs.specs.Staircase.{Near, placeAt, stepAt, stepsTo, staircaseOf}
-use Rattle.stairs.proofs.Climb.{near, place-next, step-is, steps-low}
+use Rattle.stairs.proofs.Places.{near, place-next, step-is, steps-low}
 use Rattle.baryon.specs.declared.Stair.{Stair}
 use Rattle.baryon.specs.Situations.{badStepRoom, stairRows}
-use Rattle.baryon.specs.Climb.{stairOpened, stairNext, stairAt}
+use Rattle.baryon.specs.Climb.{stairOpened, stairNext}
 use Rattle.baryon.specs.Calls.{StaircaseCall}
+
+-- after i steps
+unfoldable pub stairAt : List ℤ → ℕ → ℕ → Stair
+stairAt o room zero = stairOpened o room
+stairAt o room (suc i) = stairNext o (stairAt o room i)
 
 -- a step keeps the row and the count
 pub count-kept : (o : List ℤ) (s : Stair) → (stairNext o s .row ≡ s .row) × (stairNext o s .count ≡ s .count)

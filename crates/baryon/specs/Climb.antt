@@ -1,5 +1,5 @@
 -- The staircase step by step, as the code goes.
-use Prim.Native.Nat.{ℕ, zero, suc}
+use Prim.Native.Nat.{ℕ}
 use mathlib.Core.List.{List, [], _∷_}
 use lib.IntN.{ℤ, pos}
 use Rattle.rows.specs.Rows.{firstRow, ifAccepted}
@@ -16,8 +16,3 @@ unfoldable pub stairNext : List ℤ → Stair → Stair
 stairNext o s =
     let a = bestOf (s .at) o in
     record { row = s .row; count = s .count; at = movedOf (s .at) o a; step = stepAlong o a }
-
--- after i steps
-unfoldable pub stairAt : List ℤ → ℕ → ℕ → Stair
-stairAt o room zero = stairOpened o room
-stairAt o room (suc i) = stairNext o (stairAt o room i)

@@ -35,8 +35,3 @@ steppedOf d l w s =
 
 unfoldable pub closedOf : PathAnswer → PathAnswer
 closedOf w = ifAccepted (w .refusal) (pathAnswer (firstRow ((badMatrix (w .matrix), 10) ∷ [])) (transporterOf w)) w
-
--- all the steps, in order
-unfoldable pub walkedBy : List ℕ → List Float → PathAnswer → List Step → PathAnswer
-walkedBy d l w [] = w
-walkedBy d l w (s ∷ steps) = walkedBy d l (steppedOf d l w s) steps

@@ -27,7 +27,7 @@ use Rattle.sweep.specs.Jobs.{FrameCall}
 use Rattle.fields.specs.declared.ListAnswer.{ListAnswer}
 use Rattle.fields.specs.Calls.{Filled}
 use Rattle.stairs.specs.Staircase.{stepsTo}
-use Rattle.stairs.proofs.Climb.{steps-low}
+use Rattle.stairs.proofs.Places.{steps-low}
 use Rattle.baryon.specs.Situations.{stairRows}
 use Rattle.baryon.proofs.Places.{stair-passed}
 use Rattle.export.specs.Face.{Given, CountGiven, NumberGiven}

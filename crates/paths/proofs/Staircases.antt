@@ -13,7 +13,7 @@ use Rattle.stairs.specs.declared.Stairs.{Stairs}
 use Rattle.stairs.specs.Offsets.{badOffsets}
 use Rattle.stairs.specs.Staircase.{bestOf, stepAlong, placeAt, stepAt, stepsTo, staircaseOf, stairsOf, noStep}
 use Rattle.stairs.proofs.Best.{best-low}
-use Rattle.stairs.proofs.Climb.{steps-low}
+use Rattle.stairs.proofs.Places.{steps-low}
 use Rattle.paths.specs.Path.{taken, Passable}
 
 module _ (d : List ℤ) where

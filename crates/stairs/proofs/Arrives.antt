@@ -19,7 +19,7 @@ use Rattle.stairs.specs.Line.{alongOf, signum}
 use Rattle.stairs.specs.Staircase.{differs, movedOf, bestOf, stepAlong, placeAt, stepAt, stepsTo, staircaseOf}
 use Rattle.stairs.specs.Claims.{ledBy, StaircaseArrives}
 use Rattle.stairs.proofs.Best.{best-low, best-left}
-use Rattle.stairs.proofs.Climb.{long-place}
+use Rattle.stairs.proofs.Places.{long-place}
 
 -- ## along one axis
 

@@ -6,10 +6,21 @@ use mathlib.Core.Path.{_≡_, refl, ap, sym, _∙_}
 use native.Mathlib.Omega.{arith}
 use lib.IntN.{ℤ}
 use lib.Ieee.{Float, lt}
+use Rattle.complex.specs.Rounded.{fzero}
 use Rattle.stairs.specs.declared.Nearest.{Nearest}
 use Rattle.stairs.specs.Line.{alongOf}
 use Rattle.stairs.specs.Staircase.{differs, stepDist, leftOf, firstMin, firstOf, bestOf}
-use Rattle.stairs.specs.Best.{noneFound, foundAt, betterOf, nearerOf}
+use Rattle.stairs.specs.Best.{betterOf}
+
+abbrev pub noneFound : Nearest
+noneFound = record { found = false; axis = 0; dist = fzero }
+
+abbrev foundAt : List ℤ → List ℤ → ℕ → Nearest
+foundAt p d a = record { found = true; axis = a; dist = stepDist p d a }
+
+-- an axis counts if something is left along it
+unfoldable pub nearerOf : List ℤ → List ℤ → Nearest → ℕ → Nearest
+nearerOf p d best a = cond (differs (alongOf p a) (alongOf d a)) (betterOf best a (stepDist p d a)) best
 
 -- ## the better of two
 

@@ -1,4 +1,4 @@
 pub mod Whole
 pub mod Best
-pub mod Climb
+pub mod Places
 pub mod Arrives

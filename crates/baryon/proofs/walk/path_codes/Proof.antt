@@ -4,9 +4,9 @@ use mathlib.Core.Path.{_≡_, refl, ap, sym, _∙_}
 use native.Mathlib.Omega.{arith}
 use mathlib.Core.List.{map}
 use lib.ListN.{length, drop}
-use Rattle.baryon.specs.Walk.{Walkable, openedOf, steppedOf, closedOf, walkedBy}
+use Rattle.baryon.specs.Walk.{Walkable, openedOf, steppedOf, closedOf}
 use Rattle.baryon.specs.Codes.{stepOfCode}
-use Rattle.baryon.proofs.Paths.{opened-walkable, stepped-walkable}
+use Rattle.baryon.proofs.Paths.{walkedBy, opened-walkable, stepped-walkable}
 use Rattle.baryon.proofs.Bytes.{codes-next, codes-done, codes-answered}
 use Rattle.baryon.proofs.walk.path_codes.Statement.{statement}
 use Rattle.baryon.proofs.walk.path_codes.Tie as tie
