@@ -24,7 +24,7 @@ use Rattle.sweep.specs.declared.Job.{Job}
 use Rattle.sweep.specs.declared.Opened.{Opened}
 use Rattle.sweep.specs.declared.Framed.{Framed}
 use Rattle.sweep.specs.Jobs.{FrameCall}
-use Rattle.fields.specs.declared.ListAnswer.{ListAnswer}
+use Rattle.rows.specs.declared.ListAnswer.{ListAnswer}
 use Rattle.fields.specs.Calls.{Filled}
 use Rattle.stairs.specs.Staircase.{stepsTo}
 use Rattle.stairs.proofs.Places.{steps-low}

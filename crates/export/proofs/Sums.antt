@@ -11,7 +11,7 @@ use Rattle.rows.specs.Rows.{ifAccepted}
 use Rattle.rows.proofs.Laws.{if-refused, if-accepted}
 use Rattle.flux.specs.declared.FluxAccumulator.{FluxAccumulator}
 use Rattle.flux.specs.declared.FluxAnswer.{FluxAnswer}
-use Rattle.flux.specs.declared.CorrelationAnswer.{CorrelationAnswer}
+use Rattle.rows.specs.declared.ListAnswer.{ListAnswer}
 use Rattle.flux.specs.Sums.{Addition, addedOf}
 use Rattle.flux.specs.Calls.{fluxAnswer, emptyAcc, zeroAcc, newRow, addRow, loopAt, NewCall, AddCall, CorrelationCall}
 use Rattle.export.specs.Accumulators.{accIn, countNumbers, sumNumbers, additionIn, NewGiven, AddGiven, CorrelationGiven, AccumulatorsHandOn}
@@ -52,8 +52,8 @@ module _ {x y : Addition} (same : x ≡ y) {a : FluxAnswer} {grid scratch : List
     cleared = rw same at (e .cleared);
   }
 
-pub correlation-given : {acc held : FluxAccumulator} {k : ℕ} {grid old new : List Float} {a : CorrelationAnswer} → held ≡ acc → CorrelationCall held k grid old a new → CorrelationGiven acc k grid old (a .refusal) new
-correlation-given same e = let f = rw same at e in record { refusal = ap (λ (b : CorrelationAnswer). b .refusal) (f .answer); array = f .list }
+pub correlation-given : {acc held : FluxAccumulator} {k : ℕ} {grid old new : List Float} {a : ListAnswer} → held ≡ acc → CorrelationCall held k grid old a new → CorrelationGiven acc k grid old (a .refusal) new
+correlation-given same e = let f = rw same at e in record { refusal = ap (λ (b : ListAnswer). b .refusal) (f .answer); array = f .list }
 
 -- ## handed on
 

@@ -20,7 +20,7 @@ use Rattle.strength.specs.Clover.{cloverOf, strengthsOf}
 use Rattle.strength.specs.Densities.{densityOf}
 use Rattle.stout.specs.Stout.{stoutOf}
 use Rattle.fields.specs.declared.StrengthAnswer.{StrengthAnswer}
-use Rattle.fields.specs.declared.ListAnswer.{ListAnswer}
+use Rattle.rows.specs.declared.ListAnswer.{ListAnswer}
 use Rattle.rows.specs.Finite.{badNumbers}
 use Rattle.fields.specs.Situations.{badSix, stoutRows, smearRows, densityRows}
 

@@ -11,7 +11,7 @@ use Rattle.gauge.specs.Field.{Holds, linkOf}
 use Rattle.strength.specs.declared.Density.{Density}
 use Rattle.strength.specs.Densities.{InSpace, densityOf}
 use Rattle.stout.specs.Stout.{stoutOf}
-use Rattle.fields.specs.declared.ListAnswer.{ListAnswer}
+use Rattle.rows.specs.declared.ListAnswer.{ListAnswer}
 use Rattle.rows.specs.Finite.{finiteNumbers}
 use Rattle.fields.specs.Calls.{densityList, SmearCall, DensityCall}
 

@@ -1,5 +1,5 @@
-use crate::ListAnswer;
 use crate::judges::density_row;
+use rows::ListAnswer;
 use strength::Density;
 ghost use mathlib.Core.Path.{_≡_};
 ghost use lib.ListN.{length};

@@ -21,8 +21,3 @@ pub struct StrengthAnswer {
     pub refusal: u32,
     pub f: [Su3; 6],
 }
-
-// 0 where the list was filled; or the row that refuses the call.
-pub struct ListAnswer {
-    pub refusal: u32,
-}

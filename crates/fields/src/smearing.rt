@@ -1,8 +1,8 @@
-use crate::ListAnswer;
 use crate::judges::smear_row;
 use crate::judges::stout_row;
 use mat::MatrixAnswer;
 use mat::Su3;
+use rows::ListAnswer;
 ghost use mathlib.Core.Path.{_≡_};
 ghost use Prim.Native.Nat.{_*_};
 ghost use lib.ListN.{length};

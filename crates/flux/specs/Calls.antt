@@ -16,7 +16,7 @@ use Rattle.contraction.specs.Baryon.{baryonOf}
 use Rattle.sums.specs.Ending.{badSums, zeros}
 use Rattle.flux.specs.declared.FluxAccumulator.{FluxAccumulator}
 use Rattle.flux.specs.declared.FluxAnswer.{FluxAnswer}
-use Rattle.flux.specs.declared.CorrelationAnswer.{CorrelationAnswer}
+use Rattle.rows.specs.declared.ListAnswer.{ListAnswer}
 use Rattle.flux.specs.Situations.{newRows, meanRows, correlationRows, addRows}
 use Rattle.flux.specs.Means.{meanLoop, correlationList}
 use Rattle.flux.specs.Sums.{Addition, addedGrid, addedOf}
@@ -77,6 +77,6 @@ MeanCall acc r = IsNumber (meanRow acc) (meanLoop acc) r
 unfoldable pub correlationRow : FluxAccumulator → ℕ → List Float → List Float → ℕ
 correlationRow acc k grid out = finally (firstRow (correlationRows acc k (length grid) (length out))) (badNumbers (correlationList acc k grid), 10)
 
-pub record CorrelationCall (acc : FluxAccumulator) (k : ℕ) (grid out : List Float) (r : CorrelationAnswer) (outAfter : List Float) : Type 0 where
+pub record CorrelationCall (acc : FluxAccumulator) (k : ℕ) (grid out : List Float) (r : ListAnswer) (outAfter : List Float) : Type 0 where
   pub answer : r ≡ record { refusal = correlationRow acc k grid out }
   pub list : outAfter ≡ ifAccepted (correlationRow acc k grid out) (correlationList acc k grid) out

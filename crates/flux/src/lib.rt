@@ -25,8 +25,3 @@ pub struct FluxAnswer {
     pub refusal: u32,
     pub acc: FluxAccumulator,
 }
-
-// 0 where the list was filled; or the row that refuses the call.
-pub struct CorrelationAnswer {
-    pub refusal: u32,
-}

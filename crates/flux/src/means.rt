@@ -1,7 +1,7 @@
-use crate::CorrelationAnswer;
 use crate::FluxAccumulator;
 use crate::judges::correlation_row;
 use crate::judges::mean_row;
+use rows::ListAnswer;
 use rows::Number;
 use sums::mean;
 ghost use mathlib.Core.Path.{_≡_};
@@ -21,21 +21,21 @@ impl FluxAccumulator {
 
     // The correlation of the loop with the k-th density at every offset: first every number is tested, and
     // then worked out again and stored.
-    pub fn correlation(self, k: u32, grid: &[f64], out: &mut [f64]) -> CorrelationAnswer
+    pub fn correlation(self, k: u32, grid: &[f64], out: &mut [f64]) -> ListAnswer
         ensures { λ r. ⌜ CorrelationCall self k (now (grid .entry)) (now (out .entry)) r (now (out .exit)) ⌝ }
     {
         let row = correlation_row(self, k, grid.len(), out.len());
         if row != 0 {
-            return CorrelationAnswer { refusal: row };
+            return ListAnswer { refusal: row };
         }
         let s = self.s;
         let means = mean(self.w, self.samples) * mean(s[k as usize], self.samples);
         let samples = std::num::nearest_u64_to_f64(self.samples);
         let first = k as usize * out.len();
         if !sums::ratios_finite(grid, first, out.len(), samples, means) {
-            return CorrelationAnswer { refusal: 10 };
+            return ListAnswer { refusal: 10 };
         }
         sums::store_ratios(grid, first, samples, means, out);
-        CorrelationAnswer { refusal: 0 }
+        ListAnswer { refusal: 0 }
     }
 }

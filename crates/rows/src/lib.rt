@@ -14,6 +14,11 @@ pub enum Count {
     Refused(u32),
 }
 
+// Whether a list was filled: 0, or the row that refuses the call, which leaves the list as it was.
+pub struct ListAnswer {
+    pub refusal: u32,
+}
+
 // Row 10's test: neither an infinity nor a NaN.
 pub fn is_finite(x: f64) -> bool
     ensures { λ r. ⌜ r ≡ finite x ⌝ }
