@@ -29,7 +29,7 @@ decimalText n = digits 10 (placesOf 19 n) n
 unfoldable pub hexText : ℕ → List ℕ
 hexText n = digits 16 16 n
 
--- the bits of an f64
+-- an f64 by its bits
 unfoldable pub numberText : Float → List ℕ
 numberText x = hexText (toBits binary64 x)
 

@@ -19,7 +19,7 @@ use Rattle.lattice.specs.Answers.{AverageCall, ActionCall, loopAnswer, loopCall
 use Rattle.contraction.specs.Baryon.{baryonOf}
 use Rattle.baryon.specs.Calls.{BaryonCall}
 use Rattle.findings.specs.declared.Findings.{Findings}
-use Rattle.findings.specs.declared.field.Frames.{Frames}
+use Rattle.findings.specs.declared.Frames.{Frames}
 use Rattle.findings.specs.Findings.{Small, quarks, coldPlan, coldField, framesOf, findingsOf}
 use Rattle.findings.proofs.Passes.{cold-passes, average-passes, action-passes, loop-passes, baryon-passes}
 

@@ -10,7 +10,7 @@ use Rattle.findings.specs.declared.Findings.{Findings}
 use Rattle.findings.specs.Findings.{Small, findingsOf}
 use Rattle.findings.specs.Columns.{columnsOf}
 
--- averages and loops are 1, the action is 0, and no link is stuck
+-- the average and both loops are 1, the action is +0, and no link is stuck
 unfoldable pub coldFindings : List ℕ → Findings
 coldFindings d = record {
   sites = volume d;

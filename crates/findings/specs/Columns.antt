@@ -12,7 +12,7 @@ use Rattle.lattice.specs.Rows.{Rows}
 use Rattle.lattice.specs.Situations.{badExtents}
 use Rattle.ascii.specs.Lines.{ascii, decimalText, numberText, textLine}
 use Rattle.findings.specs.declared.Findings.{Findings}
-use Rattle.findings.specs.declared.field.Frames.{Frames}
+use Rattle.findings.specs.declared.Frames.{Frames}
 use Rattle.findings.specs.Findings.{findingsOf}
 
 -- 15: not four bytes

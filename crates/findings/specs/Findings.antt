@@ -17,7 +17,7 @@ use Rattle.contraction.specs.Baryon.{baryonOf}
 use Rattle.sweep.specs.declared.Job.{Job}
 use Rattle.sweep.specs.RunOfFrames.{Frame, lent, run, opened}
 use Rattle.findings.specs.declared.Findings.{Findings}
-use Rattle.findings.specs.declared.field.Frames.{Frames}
+use Rattle.findings.specs.declared.Frames.{Frames}
 
 -- ## A half-sweep of direction 0 and parity 0 in frames of 3, 0 and 9
 

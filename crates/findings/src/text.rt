@@ -1,6 +1,6 @@
 use crate::Findings;
-use crate::field::Frames;
-use crate::field::measure;
+use crate::Frames;
+use crate::measure;
 use rows::Count;
 ghost use Prim.Native.Nat.{_+_, _≤_};
 ghost use mathlib.Core.Path.{_≡_};

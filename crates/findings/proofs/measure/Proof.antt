@@ -1,8 +1,8 @@
 use borrow.Author.Needs.{needs}
 use mathlib.Core.Path.{_∙_}
 use Rattle.findings.proofs.Measured.{started, average-found, action-found, loop-found, baryon-found, all-found}
-use Rattle.findings.proofs.field.measure.Statement.{statement}
-use Rattle.findings.proofs.field.measure.Tie as tie
+use Rattle.findings.proofs.measure.Statement.{statement}
+use Rattle.findings.proofs.measure.Tie as tie
 
 returns : tie.Need-returns
 returns c =

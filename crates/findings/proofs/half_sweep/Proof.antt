@@ -1,8 +1,8 @@
 use borrow.Author.Needs.{needs}
 use Rattle.sweep.specs.RunOfFrames.{run}
 use Rattle.findings.specs.Findings.{framesOf}
-use Rattle.findings.proofs.field.half_sweep.Statement.{statement}
-use Rattle.findings.proofs.field.half_sweep.Tie as tie
+use Rattle.findings.proofs.half_sweep.Statement.{statement}
+use Rattle.findings.proofs.half_sweep.Tie as tie
 
 returns : tie.Need-returns
 unfolding framesOf run
