@@ -32,7 +32,9 @@ mod times;
 mod update;
 mod words;
 
+use std::panic::resume_unwind;
 use std::process::ExitCode;
+use std::thread;
 use tally::Tally;
 
 /// A group of calls: its name, and what compares all its calls.
@@ -70,14 +72,29 @@ fn print(text: &str) -> ExitCode {
     ExitCode::SUCCESS
 }
 
-fn compare() -> ExitCode {
+/// Compares all groups side by side and prints each one's tally, in the order of the list.
+fn tallies() -> Tally {
     let mut total = Tally::default();
-    for (name, compare) in GROUPS {
-        let mut tally = Tally::default();
-        compare(&mut tally);
-        println!("{name}: {tally}");
-        total.absorb(tally);
-    }
+    thread::scope(|scope| {
+        let started = GROUPS.map(|(name, compare)| {
+            let group = scope.spawn(move || {
+                let mut tally = Tally::default();
+                compare(&mut tally);
+                tally
+            });
+            (name, group)
+        });
+        for (name, group) in started {
+            let tally = group.join().unwrap_or_else(|panic| resume_unwind(panic));
+            println!("{name}: {tally}");
+            total.absorb(tally);
+        }
+    });
+    total
+}
+
+fn compare() -> ExitCode {
+    let total = tallies();
     println!();
     times::print();
     println!();

@@ -18,10 +18,10 @@ use Rattle.stairs.specs.declared.Step.{Step}
 use Rattle.stairs.specs.declared.Stairs.{Stairs}
 use Rattle.stairs.specs.Staircase.{stepAt, stepsTo, staircaseOf, stairsOf, noStep}
 use Rattle.baryon.specs.declared.PathAnswer.{PathAnswer}
-use Rattle.baryon.specs.Calls.{pathCall}
+use Rattle.baryon.specs.Calls.{staircaseRow, pathCall}
 use Rattle.baryon.specs.Walk.{openedOf, steppedOf, closedOf}
 use Rattle.baryon.proofs.Paths.{walkedBy, path-answered}
-use Rattle.baryon.specs.Codes.{codeOf, stepOfCode, codesRow, CodesCall}
+use Rattle.baryon.specs.Codes.{codeOf, stepOfCode, CodesCall}
 
 pub code-forward : (s : Step) → s .forward ≡ true → 2 * s .axis + 1 ≡ codeOf s
 unfolding codeOf
@@ -76,9 +76,9 @@ codes-filled d old {s} e h =
 
 -- ## the answer
 
-pub codes-refused : (o : List ℤ) (old : List ℕ) {r : ℕ} → r ≡ codesRow o old → (r ≡ 0 → ⊥) → CodesCall o old (Count.Refused r) old
+pub codes-refused : (o : List ℤ) (old : List ℕ) {r : ℕ} → r ≡ staircaseRow o (length old) → (r ≡ 0 → ⊥) → CodesCall o old (Count.Refused r) old
 codes-refused o old {r} same ne = record { count = count-refused same (stepsTo o) ne; list = rw (← same) (sym (if-refused _ old r ne)) }
 
-pub codes-accepted : (o : List ℤ) (old : List ℕ) {r : ℕ} → r ≡ codesRow o old → r ≡ 0 → {n : ℕ} {exit : List ℕ} → n ≡ stepsTo o → exit ≡ map codeOf (staircaseOf o) ++ drop (stepsTo o) old
+pub codes-accepted : (o : List ℤ) (old : List ℕ) {r : ℕ} → r ≡ staircaseRow o (length old) → r ≡ 0 → {n : ℕ} {exit : List ℕ} → n ≡ stepsTo o → exit ≡ map codeOf (staircaseOf o) ++ drop (stepsTo o) old
     → CodesCall o old (Count.Value n) exit
 codes-accepted o old same none e f = record { count = count-accepted same none e; list = rw (← same) (f ∙ sym (if-accepted _ old none)) }

@@ -18,7 +18,7 @@ use Rattle.geometry.specs.Range.{range}
 use Rattle.geometry.proofs.Range.{fill-front}
 use Rattle.stairs.specs.declared.Step.{Step}
 use Rattle.stairs.specs.Offsets.{badOffsets}
-use Rattle.stairs.specs.Staircase.{Near, placeAt, stepAt, stepsTo, staircaseOf}
+use Rattle.stairs.specs.Staircase.{Reached, placeAt, stepAt, stepsTo, staircaseOf}
 use Rattle.stairs.proofs.Places.{near, place-next, step-is, steps-low}
 use Rattle.baryon.specs.declared.Stair.{Stair}
 use Rattle.baryon.specs.Situations.{badStepRoom, stairRows}
@@ -54,11 +54,11 @@ stair-passed o room e =
     (first .0, ltb-false room (stepsTo o) (second .0))
 
 module _ (o : List ℤ) (room : ℕ) where
-  pub place-near : (i : ℕ) → i < stairOpened o room .count → Near (stairAt o room i .at)
+  pub place-near : (i : ℕ) → i < stairOpened o room .count → Reached (stairAt o room i .at)
   unfolding stairOpened ifAccepted
   place-near i l = go (firstRow (stairRows o room)) refl l
     where
-      go : (r : ℕ) → firstRow (stairRows o room) ≡ r → i < ifAccepted r (stepsTo o) 0 → Near (stairAt o room i .at)
+      go : (r : ℕ) → firstRow (stairRows o room) ≡ r → i < ifAccepted r (stepsTo o) 0 → Reached (stairAt o room i .at)
       go zero e l = let low = steps-low o (stair-passed o room e .0) in near o i (place-is o room i) (omega arith)
       go (suc r) e l = absurd (omega arith)
 

@@ -15,7 +15,7 @@ use Rattle.loops.proofs.Laws.{fill-next, fill-done, length-fill}
 use Rattle.rows.specs.Answers.{countOf}
 use Rattle.rows.specs.declared.Count.{Count}
 use Rattle.stairs.specs.declared.Step.{Step}
-use Rattle.stairs.specs.Staircase.{Near}
+use Rattle.stairs.specs.Staircase.{Reached}
 use Rattle.baryon.specs.declared.Stair.{Stair}
 use Rattle.baryon.specs.Climb.{stairOpened, stairNext}
 use Rattle.baryon.specs.Calls.{StaircaseCall}
@@ -92,8 +92,8 @@ module _ {d : List ℤ} {ys₀ : List Step} (t : Turn d ys₀) where
   pub inside : t .i < many d ys₀ → t .i < length (t .ys)
   inside l = let a = room-enough d (length ys₀) in let b = long in omega arith
 
-  pub standing : t .i < many d ys₀ → Near (t .w .at)
-  standing l = subst (λ (w : Stair). Near (w .at)) (sym (t .here)) (place-near d (length ys₀) (t .i) l)
+  pub standing : t .i < many d ys₀ → Reached (t .w .at)
+  standing l = subst (λ (w : Stair). Reached (w .at)) (sym (t .here)) (place-near d (length ys₀) (t .i) l)
 
   -- one more step
   pub steps-on : (r : Stair) → r ≡ stairNext d (t .w) → r ≡ after d ys₀ (suc (t .i))

@@ -22,12 +22,13 @@ use Rattle.baryon.specs.Situations.{stairRows, pathRows, lineRows, loopR
 
 -- ## The staircase: steps to the front, later places stay
 
-abbrev pub staircaseRow : List ℤ → List Step → ℕ
-staircaseRow o old = firstRow (stairRows o (length old))
+-- the row for a list with so much room
+abbrev pub staircaseRow : List ℤ → ℕ → ℕ
+staircaseRow o room = firstRow (stairRows o room)
 
 pub record StaircaseCall (o : List ℤ) (old : List Step) (r : Count) (exit : List Step) : Type 0 where
-  pub count : IsCount (staircaseRow o old) (stepsTo o) r
-  pub list : exit ≡ ifAccepted (staircaseRow o old) (staircaseOf o ++ drop (stepsTo o) old) old
+  pub count : IsCount (staircaseRow o (length old)) (stepsTo o) r
+  pub list : exit ≡ ifAccepted (staircaseRow o (length old)) (staircaseOf o ++ drop (stepsTo o) old) old
 
 -- the same with a list of its own, 96 places long
 abbrev pub noSteps : List Step

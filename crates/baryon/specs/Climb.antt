@@ -3,7 +3,7 @@ use Prim.Native.Nat.{ℕ}
 use mathlib.Core.List.{List, [], _∷_}
 use lib.IntN.{ℤ, pos}
 use Rattle.rows.specs.Rows.{firstRow, ifAccepted}
-use Rattle.stairs.specs.Staircase.{movedOf, bestOf, stepAlong, stepsTo, noStep}
+use Rattle.stairs.specs.Staircase.{steppedTo, bestOf, stepAlong, stepsTo, noStep}
 use Rattle.baryon.specs.declared.Stair.{Stair}
 use Rattle.baryon.specs.Situations.{stairRows}
 
@@ -15,4 +15,4 @@ stairOpened o room =
 unfoldable pub stairNext : List ℤ → Stair → Stair
 stairNext o s =
     let a = bestOf (s .at) o in
-    record { row = s .row; count = s .count; at = movedOf (s .at) o a; step = stepAlong o a }
+    record { row = s .row; count = s .count; at = steppedTo (s .at) o a; step = stepAlong o a }

@@ -5,7 +5,7 @@ use stairs::Step;
 ghost use mathlib.Core.Path.{_≡_};
 ghost use Prim.Native.Nat.{_<_};
 ghost use Rattle.rows.specs.Answers.{countOf};
-ghost use Rattle.stairs.specs.Staircase.{Near};
+ghost use Rattle.stairs.specs.Staircase.{Reached};
 ghost use Rattle.baryon.specs.Climb.{stairOpened, stairNext};
 ghost use Rattle.baryon.specs.Calls.{StaircaseCall};
 ghost use Rattle.baryon.specs.Codes.{codeOf, CodesCall};
@@ -39,7 +39,7 @@ fn stair_open(d: [i32; 3], room: usize) -> Stair
 
 // One step on.
 fn stair_next(d: [i32; 3], s: Stair) -> Stair
-    requires { ⌜ Near (s .at) ⌝ }
+    requires { ⌜ Reached (s .at) ⌝ }
     ensures { λ r. ⌜ r ≡ stairNext d s ⌝ }
 {
     let p = s.at;

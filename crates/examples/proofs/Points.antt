@@ -11,10 +11,10 @@ use Rattle.geometry.specs.Steps.{total, fwdOf, bwdOf, movedOf, parityOf}
 use Rattle.geometry.specs.Order.{sitesOf}
 use Rattle.loops.specs.Loops.{foldTo}
 use Rattle.stairs.specs.Line.{signum, dot, lineDist}
-use Rattle.stairs.specs.Staircase.{differs, movedOf as steppedTo, leftOf, firstMin, firstOf, bestOf, stepAlong, placeAt, stepAt, stepsTo, staircaseOf}
+use Rattle.stairs.specs.Staircase.{differs, steppedTo, leftOf, firstMin, leastOf, bestOf, stepAlong, placeAt, stepAt, stepsTo, staircaseOf}
 use Rattle.baryon.specs.Codes.{codeOf}
 use Rattle.examples.specs.Points.{PointsHold}
 
 pub points-hold : PointsHold
-unfolding coordsOf parityOf total fwdOf bwdOf movedOf indexOf sitesOf range volume ℕ-discrete toBits ofInt sqrtOf drawOf resultOf nextOf uniformOf add sub mul div lt ofBits round sum units odd size climb span ofFields neg foldTo signum dot lineDist differs steppedTo leftOf firstMin firstOf bestOf stepAlong placeAt stepAt stepsTo staircaseOf codeOf
+unfolding coordsOf parityOf total fwdOf bwdOf movedOf indexOf sitesOf range volume ℕ-discrete toBits ofInt sqrtOf drawOf resultOf nextOf uniformOf add sub mul div lt ofBits round sum units odd size climb span ofFields neg foldTo signum dot lineDist differs steppedTo leftOf firstMin leastOf bestOf stepAlong placeAt stepAt stepsTo staircaseOf codeOf
 points-hold = refl

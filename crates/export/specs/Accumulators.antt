@@ -8,7 +8,7 @@ use lib.ListN.{length, getD}
 use Rattle.rows.specs.Rows.{ifAccepted}
 use Rattle.flux.specs.declared.FluxAccumulator.{FluxAccumulator}
 use Rattle.flux.specs.declared.FluxAnswer.{FluxAnswer}
-use Rattle.sums.specs.Ending.{zeros}
+use Rattle.sums.specs.Ending.{zerosLike}
 use Rattle.flux.specs.Means.{meanLoop, correlationList}
 use Rattle.flux.specs.Sums.{Addition, addedGrid, addedOf}
 use Rattle.flux.specs.Calls.{fluxAnswer, emptyAcc, zeroAcc, newRow, openRow, addRow, loopAt, meanRow, correlationRow}
@@ -43,7 +43,7 @@ pub record NewGiven (n : List ℕ) (o : List ℤ) (t count : ℕ) (grid : List F
   pub refusal : r ≡ newRow n o t count grid
   pub counted : counts ≡ countNumbers (ifAccepted (newRow n o t count grid) (emptyAcc n o t count) zeroAcc)
   pub summed : sums ≡ sumNumbers (ifAccepted (newRow n o t count grid) (emptyAcc n o t count) zeroAcc)
-  pub list : gridAfter ≡ ifAccepted (newRow n o t count grid) (zeros grid) grid
+  pub list : gridAfter ≡ ifAccepted (newRow n o t count grid) (zerosLike grid) grid
 
 abbrev pub additionIn : List ℕ → List ℤ → List Float → List ℕ → ℕ → List Float → List Float → List Float → List Float → Addition
 additionIn c o s d count links densities grid scratch =
@@ -55,7 +55,7 @@ pub record AddGiven (x : Addition) (c : List ℕ) (s : List Float) (r : ℕ) (co
   pub counted : counts ≡ ifAccepted (addRow (loopAt x) x) (countNumbers (addedOf (loopAt x) x)) c
   pub summed : sums ≡ ifAccepted (addRow (loopAt x) x) (sumNumbers (addedOf (loopAt x) x)) s
   pub list : grid ≡ ifAccepted (addRow (loopAt x) x) (addedGrid (loopAt x) x) (x .grid)
-  pub cleared : scratch ≡ ifAccepted (openRow x) (zeros (x .scratch)) (x .scratch)
+  pub cleared : scratch ≡ ifAccepted (openRow x) (zerosLike (x .scratch)) (x .scratch)
 
 abbrev pub MeanGiven : FluxAccumulator → ℕ → List Float → Type 0
 MeanGiven acc r out = NumberGiven (meanRow acc) (meanLoop acc) r out

@@ -27,7 +27,7 @@ use Rattle.geometry.specs.Range.{range}
 use Rattle.stairs.specs.declared.Step.{Step}
 use Rattle.stairs.specs.Offsets.{offsetOf}
 use Rattle.stairs.specs.Line.{signum, dot, lineDist}
-use Rattle.stairs.specs.Staircase.{differs, movedOf, leftOf, firstMin, firstOf, bestOf, stepAlong, placeAt, stepAt, stepsTo, staircaseOf}
+use Rattle.stairs.specs.Staircase.{differs, steppedTo, leftOf, firstMin, leastOf, bestOf, stepAlong, placeAt, stepAt, stepsTo, staircaseOf}
 use Rattle.paths.specs.Path.{Transporter, stepOf, stepsFrom, pathOf}
 use Rattle.contraction.specs.Epsilon.{epsilonOf}
 use Rattle.contraction.specs.Baryon.{quarkLineOf, loopOf, baryonOf}
@@ -79,7 +79,7 @@ singlet = refl
 
 -- the quarks' staircases go along axes
 axes : (badAxes (staircaseOf (offsetOf quarks 0)) ≡ false) × (badAxes (staircaseOf (offsetOf quarks 1)) ≡ false) × (badAxes (staircaseOf (offsetOf quarks 2)) ≡ false)
-unfolding badAxes offsetOf staircaseOf range stepsTo stepAt stepAlong placeAt bestOf firstOf firstMin leftOf movedOf differs signum lineDist dot foldTo lt add sub mul div neg ofInt ofBits round sum units odd size climb span ofFields
+unfolding badAxes offsetOf staircaseOf range stepsTo stepAt stepAlong placeAt bestOf leastOf firstMin leftOf steppedTo differs signum lineDist dot foldTo lt add sub mul div neg ofInt ofBits round sum units odd size climb span ofFields
 axes = (refl, refl, refl)
 
 -- ## a field of them

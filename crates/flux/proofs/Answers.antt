@@ -11,7 +11,7 @@ use Rattle.geometry.specs.Radix.{volume}
 use Rattle.rows.specs.Rows.{firstRow, ifAccepted}
 use Rattle.rows.proofs.Laws.{if-refused, if-accepted, first-row, last-row}
 use Rattle.slices.specs.Slices.{number}
-use Rattle.sums.specs.Ending.{badSums, zeros, sumsRow}
+use Rattle.sums.specs.Ending.{badSums, zerosLike, sumsRow}
 use Rattle.sums.specs.Means.{meanOf, ratio}
 use Rattle.sums.proofs.Laws.{list-kept, list-new}
 use Rattle.flux.specs.declared.FluxAccumulator.{FluxAccumulator}
@@ -37,7 +37,7 @@ module _ (n : List ℕ) (o : List ℤ) (t count : ℕ) (grid : List Float) where
   pub new-refused : {r : ℕ} {acc : FluxAccumulator} → r ≡ newRow n o t count grid → (r ≡ 0 → ⊥) → acc ≡ zeroAcc → NewCall n o t count grid (record { refusal = r; acc = acc }) grid
   new-refused {r} {acc} same ne e = record { answer = rw e (answer-kept _ _ same ne); list = list-kept _ _ same ne }
 
-  pub new-made : {acc : FluxAccumulator} {exit : List Float} → 0 ≡ newRow n o t count grid → acc ≡ emptyAcc n o t count → exit ≡ zeros grid
+  pub new-made : {acc : FluxAccumulator} {exit : List Float} → 0 ≡ newRow n o t count grid → acc ≡ emptyAcc n o t count → exit ≡ zerosLike grid
       → NewCall n o t count grid (record { refusal = 0; acc = acc }) exit
   new-made same e cleared = record { answer = rw e (answer-new _ _ same); list = list-new _ same cleared }
 

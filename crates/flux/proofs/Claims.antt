@@ -11,7 +11,7 @@ use borrow.Author.Tests.{ltb-true, eqb-false, not-true}
 use Rattle.rows.specs.Rows.{firstRow, ifAccepted}
 use Rattle.rows.proofs.Laws.{if-refused, if-accepted, finally-refused, finally-accepted}
 use Rattle.flux.specs.declared.FluxAnswer.{FluxAnswer}
-use Rattle.sums.specs.Ending.{badSums, zeros}
+use Rattle.sums.specs.Ending.{badSums, zerosLike}
 use Rattle.flux.specs.Sums.{Addition, withSums, addedGrid, addedOf}
 use Rattle.flux.specs.Calls.{fluxAnswer, openRow, addRow, Added}
 use Rattle.flux.specs.Claims.{RefusedStoresNothing, RowTenClears, AcceptedClears, SamplesGrow}
@@ -78,14 +78,14 @@ module _ (W : ℕ → Float) (x : Addition) (r : FluxAnswer) (grid scratch : Lis
   pub row-ten-clears : RowTenClears W x r grid scratch
   row-ten-clears a ten = go (ℕ-discrete (openRow x) 0)
     where
-      go : Dec (openRow x ≡ 0) → (r .acc ≡ x .acc) × (grid ≡ x .grid) × (scratch ≡ zeros (x .scratch))
+      go : Dec (openRow x ≡ 0) → (r .acc ≡ x .acc) × (grid ≡ x .grid) × (scratch ≡ zerosLike (x .scratch))
       go (yes e) = let kept = nothing-stored a (λ h. let n = sym ten ∙ answered a ∙ h in omega arith) in (kept .0, kept .1, a .cleared ∙ if-accepted _ _ e)
       go (no ne) = absurd (open-not-ten (sym (refused-first ne) ∙ sym (answered a) ∙ ten))
 
   pub accepted-clears : AcceptedClears W x r grid scratch
   accepted-clears a accepted = go (ℕ-discrete (openRow x) 0)
     where
-      go : Dec (openRow x ≡ 0) → scratch ≡ zeros (x .scratch)
+      go : Dec (openRow x ≡ 0) → scratch ≡ zerosLike (x .scratch)
       go (yes e) = a .cleared ∙ if-accepted _ _ e
       go (no ne) = absurd (ne (sym (refused-first ne) ∙ sym (answered a) ∙ accepted))
 

@@ -13,7 +13,7 @@ use Rattle.rows.specs.Finite.{badNumbers}
 use Rattle.gauge.specs.Field.{linkOf}
 use Rattle.lattice.specs.Situations.{badNumber}
 use Rattle.contraction.specs.Baryon.{baryonOf}
-use Rattle.sums.specs.Ending.{badSums, zeros}
+use Rattle.sums.specs.Ending.{badSums, zerosLike}
 use Rattle.flux.specs.declared.FluxAccumulator.{FluxAccumulator}
 use Rattle.flux.specs.declared.FluxAnswer.{FluxAnswer}
 use Rattle.rows.specs.declared.ListAnswer.{ListAnswer}
@@ -38,7 +38,7 @@ newRow n o t count grid = firstRow (newRows n o t count (length grid))
 
 pub record NewCall (n : List ℕ) (o : List ℤ) (t count : ℕ) (grid : List Float) (r : FluxAnswer) (gridAfter : List Float) : Type 0 where
   pub answer : r ≡ fluxAnswer (newRow n o t count grid) (emptyAcc n o t count) zeroAcc
-  pub list : gridAfter ≡ ifAccepted (newRow n o t count grid) (zeros grid) grid
+  pub list : gridAfter ≡ ifAccepted (newRow n o t count grid) (zerosLike grid) grid
 
 -- ## add
 
@@ -55,7 +55,7 @@ module _ (W : ℕ → Float) (x : Addition) where
   pub record Added (r : FluxAnswer) (gridAfter scratchAfter : List Float) : Type 0 where
     pub answer : r ≡ fluxAnswer addRow (addedOf W x) (x .acc)
     pub list : gridAfter ≡ ifAccepted addRow (addedGrid W x) (x .grid)
-    pub cleared : scratchAfter ≡ ifAccepted (openRow x) (zeros (x .scratch)) (x .scratch)
+    pub cleared : scratchAfter ≡ ifAccepted (openRow x) (zerosLike (x .scratch)) (x .scratch)
 
 -- the loop of three quarks at each site, as the accumulator has their offsets and the time length
 unfoldable pub loopAt : Addition → ℕ → Float

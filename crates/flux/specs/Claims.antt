@@ -5,7 +5,7 @@ use mathlib.Core.Path.{_≡_}
 use lib.Ieee.{Float}
 use Rattle.flux.specs.declared.FluxAnswer.{FluxAnswer}
 use Rattle.flux.specs.Sums.{Addition}
-use Rattle.sums.specs.Ending.{zeros}
+use Rattle.sums.specs.Ending.{zerosLike}
 use Rattle.flux.specs.Calls.{Added}
 
 module _ (W : ℕ → Float) (x : Addition) (r : FluxAnswer) (grid scratch : List Float) where
@@ -15,11 +15,11 @@ module _ (W : ℕ → Float) (x : Addition) (r : FluxAnswer) (grid scratch : Lis
 
   -- refused by row 10, it stores nothing but +0 in the scratch
   abbrev pub RowTenClears : Type 0
-  RowTenClears = Added W x r grid scratch → r .refusal ≡ 10 → (r .acc ≡ x .acc) × (grid ≡ x .grid) × (scratch ≡ zeros (x .scratch))
+  RowTenClears = Added W x r grid scratch → r .refusal ≡ 10 → (r .acc ≡ x .acc) × (grid ≡ x .grid) × (scratch ≡ zerosLike (x .scratch))
 
   -- accepted, it leaves the scratch at +0
   abbrev pub AcceptedClears : Type 0
-  AcceptedClears = Added W x r grid scratch → r .refusal ≡ 0 → scratch ≡ zeros (x .scratch)
+  AcceptedClears = Added W x r grid scratch → r .refusal ≡ 0 → scratch ≡ zerosLike (x .scratch)
 
   -- the samples never become fewer, and never pass 2^64 − 1
   abbrev pub SamplesGrow : Type 0

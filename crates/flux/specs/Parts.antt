@@ -12,7 +12,7 @@ use Rattle.lattice.specs.Rows.{Rows}
 use Rattle.lattice.specs.Situations.{badExtents, badLinks}
 use Rattle.stairs.specs.Offsets.{badQuarks, badTime}
 use Rattle.slices.specs.Slices.{places}
-use Rattle.sums.specs.Ending.{zeros, sumsRow}
+use Rattle.sums.specs.Ending.{zerosLike, sumsRow}
 use Rattle.gather.specs.Parts.{Own}
 use Rattle.flux.specs.declared.FluxAccumulator.{FluxAccumulator}
 use Rattle.flux.specs.declared.FluxAnswer.{FluxAnswer}
@@ -73,4 +73,4 @@ pub record Correlatable (acc : FluxAccumulator) (k grid out : ℕ) : Type 0 wher
 pub record Finished (old new : FluxAccumulator) (grid s : List Float) (r : FluxAnswer) (gridAfter after : List Float) : Type 0 where
   pub answer : r ≡ fluxAnswer (sumsRow grid s (new .w) (new .s)) new old
   pub list : gridAfter ≡ ifAccepted (sumsRow grid s (new .w) (new .s)) (drop (length grid) s) grid
-  pub cleared : after ≡ zeros s
+  pub cleared : after ≡ zerosLike s

@@ -1,14 +1,12 @@
+// Rows 1, 3, 11, 13 and 14 of accumulators, and row 10, with a cold field of 16 sites. A grid of 2, 2, 2
+// has 8 numbers for a density.
+use crate::EXTENTS;
+use crate::QUARKS;
 use crate::line;
 use crate::number_line;
 use flux::FluxAccumulator;
 
-// Rows 1, 3, 11, 13 and 14 of accumulators, and row 10, with a cold field of 16 sites. A grid of 2, 2, 2
-// has 8 numbers for a density.
-const EXTENTS: [usize; 4] = [2, 2, 2, 2];
-
 const GRID: [usize; 3] = [2, 2, 2];
-
-const QUARKS: [i32; 9] = [1, 0, 0, 0, 1, 0, 0, 0, 1];
 
 const FAR: [i32; 9] = [1, 0, 0, 0, 33, 0, 0, 0, 1];
 

@@ -1,10 +1,9 @@
+// Rows 1 and 5 to 9 of half-sweeps; of 16 sites 8 have a parity.
+use crate::EXTENTS;
 use crate::line;
 use lattice::Plan;
 use mat::Su3;
 use sweep::Job;
-
-// Rows 1 and 5 to 9 of half-sweeps; of 16 sites 8 have a parity.
-const EXTENTS: [usize; 4] = [2, 2, 2, 2];
 
 fn plan(pass: u64) -> Plan {
     Plan {

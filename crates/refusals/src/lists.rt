@@ -1,9 +1,8 @@
+// Rows 3, 5 and 12 of lists that are lent beside a cold field of 16 sites, and row 10.
+use crate::EXTENTS;
 use crate::count_line;
 use crate::line;
 use crate::number_line;
-
-// Rows 3, 5 and 12 of lists that are lent beside a cold field of 16 sites, and row 10.
-const EXTENTS: [usize; 4] = [2, 2, 2, 2];
 
 fn average(label: &[u8], links: &[f64]) {
     number_line(label, lattice::average_plaquette(EXTENTS, links));

@@ -9,6 +9,10 @@ mod walks;
 use rows::Count;
 use rows::Number;
 
+const EXTENTS: [usize; 4] = [2, 2, 2, 2];
+
+const QUARKS: [i32; 9] = [1, 0, 0, 0, 1, 0, 0, 0, 1];
+
 fn line(label: &[u8], row: u32) {
     io::write_all(1, label);
     io::print_decimal(1, row as u64);

@@ -1,11 +1,9 @@
+// Rows 11 and 12 of staircases, paths and loops, on a cold field of 16 sites, and row 10 with a NaN in it.
+use crate::EXTENTS;
+use crate::QUARKS;
 use crate::count_line;
 use crate::line;
 use crate::number_line;
-
-// Rows 11 and 12 of staircases, paths and loops, on a cold field of 16 sites, and row 10 with a NaN in it.
-const EXTENTS: [usize; 4] = [2, 2, 2, 2];
-
-const QUARKS: [i32; 9] = [1, 0, 0, 0, 1, 0, 0, 0, 1];
 
 fn staircase(label: &[u8], d: [i32; 3], codes: &mut [u8]) {
     count_line(label, baryon::staircase_codes(d, codes));

@@ -4,14 +4,14 @@ use mathlib.Core.Bool.{false}
 use Prim.Native.Nat.{ℕ, _+_, _-_, _*_, _/_, _%_, _^_, _≤_, _<_}
 use native.Mathlib.Omega.{arith}
 use lib.Ieee.{binary64, ofBits, odd}
-use Rattle.root.specs.Root.{Near}
+use Rattle.root.specs.Root.{IsNearestRoot}
 use Rattle.root.specs.Sqrt.{sqrtUnits}
 use Rattle.root.specs.Parts.{PartsOf, unitsBits}
 use Rattle.root.proofs.Scaling.{sqrtUnits-at, scaled-in, scaled-same, near-in}
 use Rattle.root.proofs.Significand.{plain}
 use Rattle.root.proofs.Patterns.{written}
 
-pub bits-of : (b m g q : ℕ) → PartsOf b m g → Near (m * 2 ^ (g % 2) * 2 ^ 52) q → 2 ^ 52 ≤ q → q < 2 ^ 53
+pub bits-of : (b m g q : ℕ) → PartsOf b m g → IsNearestRoot (m * 2 ^ (g % 2) * 2 ^ 52) q → 2 ^ 52 ≤ q → q < 2 ^ 53
     → (ofBits binary64 ((g / 2 - 26) * 2 ^ 52 + q) ≡ sqrtUnits (unitsBits b)) × ((g / 2 - 26) * 2 ^ 52 + q < 2047 * 2 ^ 52)
 bits-of b m g q p n lo hi =
     let i = scaled-in m g (p .low) (p .high) in
@@ -29,7 +29,7 @@ bits-of b m g q p n lo hi =
 -- ---- the shorter way, of `is_root`: w is that pattern where its digits, after the exponent, are the nearest ones
 
 pub seen : (b w q1 : ℕ) → 2 ^ 52 ≤ b → b < 2047 * 2 ^ 52 → w < 2 ^ 64 → q1 < 2 ^ 27 → (q1 + ((b / 2 ^ 52 + 1073) / 2 - 26) * 2 ^ 26) % 2 ^ 64 ≡ w / 2 ^ 26
-    → Near ((2 ^ 52 + b % 2 ^ 52) * 2 ^ ((b / 2 ^ 52 + 1073) % 2) * 2 ^ 52) (q1 * 2 ^ 26 + w % 2 ^ 26)
+    → IsNearestRoot ((2 ^ 52 + b % 2 ^ 52) * 2 ^ ((b / 2 ^ 52 + 1073) % 2) * 2 ^ 52) (q1 * 2 ^ 26 + w % 2 ^ 26)
     → (ofBits binary64 w ≡ sqrtUnits (unitsBits b)) × (w < 2047 * 2 ^ 52)
 seen b w q1 lo hi hw hq e near =
     let m = 2 ^ 52 + b % 2 ^ 52 in

@@ -13,7 +13,7 @@ use lib.Ieee.Digits.{back}
 use lib.Ieee.Fits.{down-pos}
 use lib.Ieee.Exact.{odd-sign}
 use lib.Ieee.Bits.{ofBits-toBits, ofBits-fits}
-use Rattle.root.specs.Root.{root, Near}
+use Rattle.root.specs.Root.{root, IsNearestRoot}
 use Rattle.root.specs.Sqrt.{sqrtUnits, sqrtOf}
 use Rattle.root.specs.Parts.{unitsBits}
 use Rattle.root.specs.Nearest.{Units, NearestRoot, SquareRoot, OnlySquareRoot}
@@ -95,7 +95,7 @@ twice-middle : (q P : ℕ) → (2 * q + 1) * P ≡ q * P + (q + 1) * P
 twice-middle q P = simp (mul-add, add-mul, mul-assoc, mul-comm, mul-left-comm) (omega arith)
 
 -- with P for 2 ^ k
-over : (B q P a : ℕ) → 0 < P → Near B q → (q + 1) * P ≤ a → 4 * (B * (P * P)) < (q * P + a) * (q * P + a)
+over : (B q P a : ℕ) → 0 < P → IsNearestRoot B q → (q + 1) * P ≤ a → 4 * (B * (P * P)) < (q * P + a) * (q * P + a)
 over B q P a Z n h =
     let s : (2 * q + 1) * P ≤ q * P + a = let e = twice-middle q P in omega arith in
     lt-of-lt-of-le
@@ -103,16 +103,16 @@ over B q P a Z n h =
     (mul-lt-mul-of-pos-right {m = 4 * B} {n = (2 * q + 1) * (2 * q + 1)} (wide q n) (mul-pos Z Z)))
     (le-trans (le-of-eq (sym (squares (2 * q + 1) P))) (sq-mono s))
   where
-    wide : (q : ℕ) → Near B q → 4 * B < (2 * q + 1) * (2 * q + 1)
+    wide : (q : ℕ) → IsNearestRoot B q → 4 * B < (2 * q + 1) * (2 * q + 1)
     wide q n = let e : (2 * q + 1) * (2 * q + 1) ≡ 4 * (q * q) + 4 * q + 1 = simp (mul-add, add-mul, mul-assoc, mul-comm, mul-left-comm) (omega arith) in omega arith
 
-under : (B p P a : ℕ) → 0 < P → Near B (p + 1) → a ≤ p * P → ((p + 1) * P + a) * ((p + 1) * P + a) < 4 * (B * (P * P))
+under : (B p P a : ℕ) → 0 < P → IsNearestRoot B (p + 1) → a ≤ p * P → ((p + 1) * P + a) * ((p + 1) * P + a) < 4 * (B * (P * P))
 under B p P a Z n h =
     let s : (p + 1) * P + a ≤ (2 * p + 1) * P = let e = twice-middle p P in omega arith in
     lt-of-le-of-lt (le-trans (sq-mono s) (le-of-eq (squares (2 * p + 1) P)))
     (lt-of-lt-of-le (mul-lt-mul-of-pos-right {m = (2 * p + 1) * (2 * p + 1)} {n = 4 * B} (narrow p n) (mul-pos Z Z)) (le-of-eq (mul-assoc 4 B (P * P))))
   where
-    narrow : (p : ℕ) → Near B (p + 1) → (2 * p + 1) * (2 * p + 1) < 4 * B
+    narrow : (p : ℕ) → IsNearestRoot B (p + 1) → (2 * p + 1) * (2 * p + 1) < 4 * B
     narrow p n =
         let e : (2 * p + 1) * (2 * p + 1) ≡ 4 * (p * p) + 4 * p + 1 = simp (mul-add, add-mul, mul-assoc, mul-comm, mul-left-comm) (omega arith) in
         let f : (p + 1) * (p + 1) ≡ p * p + 2 * p + 1 = simp (mul-add, add-mul, mul-assoc, mul-comm, mul-left-comm) (omega arith) in
@@ -131,7 +131,7 @@ under-power B q P a Z n h =
 
 -- ---- the root of a value of n units, where n * 2 ^ 1074 is B * 4 ^ k
 
-closest : (n B q k : ℕ) → n * 2 ^ 1074 ≡ B * (2 ^ k * 2 ^ k) → Near B q → 2 ^ 104 ≤ B → 2 ^ 52 ≤ q → (a : ℕ) → Few a
+closest : (n B q k : ℕ) → n * 2 ^ 1074 ≡ B * (2 ^ k * 2 ^ k) → IsNearestRoot B q → 2 ^ 104 ≤ B → 2 ^ 52 ≤ q → (a : ℕ) → Few a
     → (q * 2 ^ k < a → 4 * (n * 2 ^ 1074) < (q * 2 ^ k + a) * (q * 2 ^ k + a)) × (a < q * 2 ^ k → (q * 2 ^ k + a) * (q * 2 ^ k + a) < 4 * (n * 2 ^ 1074))
 closest n B q k e near big Q a f =
     let c = f .0 in
@@ -147,7 +147,7 @@ closest n B q k e near big Q a f =
         let h : 2 ^ 52 < q = lt-of-not-le g in
         let s : q - 1 + 1 ≡ q = omega arith in
         subst (λ (x : ℕ). (x * 2 ^ k + a) * (x * 2 ^ k + a) < 4 * (B * (2 ^ k * 2 ^ k))) s
-        (under B (q - 1) (2 ^ k) a (pow-pos k) (subst (λ (x : ℕ). Near B x) (sym s) near)
+        (under B (q - 1) (2 ^ k) a (pow-pos k) (subst (λ (x : ℕ). IsNearestRoot B x) (sym s) near)
         (le-trans (le-of-eq (f .3)) (next-below (f .0) (f .1) k (q - 1) (f .2) (omega arith) (subst (λ (x : ℕ). f .0 * 2 ^ f .1 < x * 2 ^ k) (sym s) (subst (λ (x : ℕ). x < q * 2 ^ k) (f .3) l)))))
 
 pub sqrtOf-nearest : (x : Float) → T (fits binary64 x) → PositiveFinite x → NearestRoot x (sqrtOf x)

@@ -8,7 +8,7 @@ use native.Mathlib.Omega.{arith}
 use lib.Pow.{pow-pos, pow-add}
 use lib.Ieee.{size, odd}
 use lib.Ieee.Digits.{size-lt, size-le}
-use Rattle.root.specs.Root.{root, IsRoot, Near}
+use Rattle.root.specs.Root.{root, IsRoot, IsNearestRoot}
 use Rattle.root.specs.Sqrt.{sqrtUnits}
 use Rattle.root.proofs.WholeRoot.{root-is}
 use Rattle.root.proofs.Arith.{le-of-lt-suc, squares, sq-mono, sq-lt-back, pow-lt-back}
@@ -49,7 +49,7 @@ size-root h R lo hi =
 
 -- ---- the nearest whole number, from the root of four times as much
 
-pub halved : (b Q q : ℕ) → 0 < q → IsRoot (4 * b) Q → Near b q → (Q + 1) / 2 ≡ q
+pub halved : (b Q q : ℕ) → 0 < q → IsRoot (4 * b) Q → IsNearestRoot b q → (Q + 1) / 2 ≡ q
 halved b Q zero P r n = absurd (omega arith)
 halved b Q (suc p) P r n =
     let e1 : (2 * p + 1) * (2 * p + 1) ≡ 4 * (p * p) + 4 * p + 1 = simp (mul-add, add-mul, mul-assoc, mul-comm, mul-left-comm) (omega arith) in
@@ -89,7 +89,7 @@ sqrtUnits-is : (n : ℕ) → sqrtUnits n ≡ odd 53 false ((root (n * 2 ^ 1074) 
 unfolding sqrtUnits
 sqrtUnits-is n = refl
 
-pub sqrtUnits-at : (n a h q : ℕ) → 2 ^ 52 ≤ a → a < 2 ^ 54 → n * 2 ^ 1074 ≡ a * 2 ^ 54 * (2 ^ h * 2 ^ h) → 0 < q → Near (a * 2 ^ 52) q → sqrtUnits n ≡ odd 53 false q (h + 1) 1074
+pub sqrtUnits-at : (n a h q : ℕ) → 2 ^ 52 ≤ a → a < 2 ^ 54 → n * 2 ^ 1074 ≡ a * 2 ^ 54 * (2 ^ h * 2 ^ h) → 0 < q → IsNearestRoot (a * 2 ^ 52) q → sqrtUnits n ≡ odd 53 false q (h + 1) 1074
 sqrtUnits-at n a h q lo hi e P near =
     let R = root (n * 2 ^ 1074) in
     let is : IsRoot (a * 2 ^ 54) (R / 2 ^ h) = root-cut (a * 2 ^ 54) (2 ^ h) R (pow-pos h) (subst (λ (x : ℕ). IsRoot x R) e (root-is (n * 2 ^ 1074))) in
@@ -110,7 +110,7 @@ sqrtUnits-at n a h q lo hi e P near =
 
 -- ---- the nearest whole number is half of the root of four times as much, rounded up
 
-pub near-half : (b Q : ℕ) → 0 < Q → IsRoot (4 * b) Q → Near b ((Q + 1) / 2)
+pub near-half : (b Q : ℕ) → 0 < Q → IsRoot (4 * b) Q → IsNearestRoot b ((Q + 1) / 2)
 near-half b Q P r = go ((Q + 1) / 2) ((Q + 1) % 2) (parts Q) (two Q)
   where
     parts : (Q : ℕ) → Q + 1 ≡ 2 * ((Q + 1) / 2) + (Q + 1) % 2
@@ -119,30 +119,30 @@ near-half b Q P r = go ((Q + 1) / 2) ((Q + 1) % 2) (parts Q) (two Q)
     two : (Q : ℕ) → (Q + 1) % 2 < 2
     two Q = omega arith
 
-    even : (q : ℕ) → Q ≡ 2 * q → Near b q
+    even : (q : ℕ) → Q ≡ 2 * q → IsNearestRoot b q
     even q e =
         let f : Q * Q ≡ 4 * (q * q) = ap (λ (x : ℕ). x * x) e ∙ simp (mul-assoc, mul-comm, mul-left-comm) (omega arith) in
         let g : (Q + 1) * (Q + 1) ≡ 4 * (q * q) + 4 * q + 1 = ap (λ (x : ℕ). (x + 1) * (x + 1)) e ∙ simp (mul-add, add-mul, mul-assoc, mul-comm, mul-left-comm) (omega arith) in
         (omega arith, omega arith)
 
-    odd′ : (p : ℕ) → Q ≡ 2 * p + 1 → Near b (p + 1)
+    odd′ : (p : ℕ) → Q ≡ 2 * p + 1 → IsNearestRoot b (p + 1)
     odd′ p e =
         let f : Q * Q ≡ 4 * (p * p) + 4 * p + 1 = ap (λ (x : ℕ). x * x) e ∙ simp (mul-add, add-mul, mul-assoc, mul-comm, mul-left-comm) (omega arith) in
         let g : (Q + 1) * (Q + 1) ≡ 4 * (p * p) + 8 * p + 4 = ap (λ (x : ℕ). (x + 1) * (x + 1)) e ∙ simp (mul-add, add-mul, mul-assoc, mul-comm, mul-left-comm) (omega arith) in
         let k : (p + 1) * (p + 1) ≡ p * p + 2 * p + 1 = simp (mul-add, add-mul, mul-assoc, mul-comm, mul-left-comm) (omega arith) in
         (omega arith, omega arith)
 
-    go : (q s : ℕ) → Q + 1 ≡ 2 * q + s → s < 2 → Near b q
+    go : (q s : ℕ) → Q + 1 ≡ 2 * q + s → s < 2 → IsNearestRoot b q
     go q (suc zero) e l = even q (omega arith)
     go zero zero e l = absurd (omega arith)
-    go (suc p) zero e l = subst (λ (x : ℕ). Near b x) (plus p) (odd′ p (omega arith))
+    go (suc p) zero e l = subst (λ (x : ℕ). IsNearestRoot b x) (plus p) (odd′ p (omega arith))
       where
         plus : (p : ℕ) → p + 1 ≡ suc p
         plus p = omega arith
     go q (suc (suc s)) e l = absurd (omega arith)
 
 -- ---- what `nearest_root` returns
-pub nearest-is : (a Q : ℕ) → 2 ^ 52 ≤ a → a < 2 ^ 54 - 1 → IsRoot (a * 2 ^ 54) Q → Near (a * 2 ^ 52) ((Q + 1) / 2) × (2 ^ 52 ≤ (Q + 1) / 2) × ((Q + 1) / 2 < 2 ^ 53)
+pub nearest-is : (a Q : ℕ) → 2 ^ 52 ≤ a → a < 2 ^ 54 - 1 → IsRoot (a * 2 ^ 54) Q → IsNearestRoot (a * 2 ^ 52) ((Q + 1) / 2) × (2 ^ 52 ≤ (Q + 1) / 2) × ((Q + 1) / 2 < 2 ^ 53)
 nearest-is a Q lo hi h =
     let b = root-bounds a Q lo (omega arith) h in
     let l : Q < 2 ^ 54 - 1 = sq-lt-back Q (2 ^ 54 - 1) (lt-of-le-of-lt (h .0) (room a hi)) in
@@ -176,15 +176,15 @@ scaled-same m g l =
     sum g l = omega arith
 
 -- the nearest whole number has 53 digits
-pub near-in : (a q : ℕ) → 2 ^ 52 ≤ a → a < 2 ^ 54 - 1 → Near (a * 2 ^ 52) q → (2 ^ 52 ≤ q) × (q < 2 ^ 53)
+pub near-in : (a q : ℕ) → 2 ^ 52 ≤ a → a < 2 ^ 54 - 1 → IsNearestRoot (a * 2 ^ 52) q → (2 ^ 52 ≤ q) × (q < 2 ^ 53)
 near-in a q lo hi n = (le-of-lt-suc (lt-of-not-le (λ (g : suc q ≤ 2 ^ 52). small q g n)), lt-of-not-le (λ (g : 2 ^ 53 ≤ q). large q g n))
   where
-    small : (q : ℕ) → suc q ≤ 2 ^ 52 → Near (a * 2 ^ 52) q → ⊥
+    small : (q : ℕ) → suc q ≤ 2 ^ 52 → IsNearestRoot (a * 2 ^ 52) q → ⊥
     small q g n =
         let s : q * q ≤ q * (2 ^ 52 - 1) = mul-le-mul-left q (omega arith) in
         omega arith
 
-    large : (q : ℕ) → 2 ^ 53 ≤ q → Near (a * 2 ^ 52) q → ⊥
+    large : (q : ℕ) → 2 ^ 53 ≤ q → IsNearestRoot (a * 2 ^ 52) q → ⊥
     large q g n =
         let s : q * 2 ^ 53 ≤ q * q = mul-le-mul-left q g in
         omega arith

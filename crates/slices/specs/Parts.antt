@@ -49,7 +49,7 @@ pub record Cell (w dens : List Float) (d : List ℕ) (b tm : ℕ) (c : List ℕ)
   pub time : tm < getD d 0 0
   pub offset : Within (space d) c
 
-pub record Plane (w dens : List Float) (d : List ℕ) (b tm : ℕ) (c : List ℕ) (z0 : ℕ) : Type 0 where
+pub record CellPlane (w dens : List Float) (d : List ℕ) (b tm : ℕ) (c : List ℕ) (z0 : ℕ) : Type 0 where
   pub cell : Cell w dens d b tm c
   pub plane : z0 < getD d 3 0
 

@@ -5,7 +5,7 @@
 ghost use mathlib.Core.Path.{_≡_};
 ghost use Prim.Native.Nat.{_+_, _%_, _<_};
 ghost use Rattle.slices.specs.Slices.{number, numbersFrom, productAt, sliceSum, withSlice};
-ghost use Rattle.slices.specs.Parts.{runSum, wrappedSum, planeSum, Run, Row, Cell, Plane, Scratch};
+ghost use Rattle.slices.specs.Parts.{runSum, wrappedSum, planeSum, Run, Row, Cell, CellPlane, Scratch};
 
 // A number below 2n, modulo n.
 fn wrap(a: usize, n: usize) -> usize
@@ -58,7 +58,7 @@ fn plane(
     z0: usize,
     sum: f64,
 ) -> f64
-    requires { ⌜ Plane (now w) (now dens) d b tm c z0 ⌝ }
+    requires { ⌜ CellPlane (now w) (now dens) d b tm c z0 ⌝ }
     ensures { λ r. ⌜ r ≡ planeSum d (productAt d (number (now (w .entry))) (numbersFrom (now (dens .entry)) b) tm c) z0 sum ⌝ }
 {
     let nt = d[0];

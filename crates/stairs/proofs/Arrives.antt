@@ -16,7 +16,7 @@ use Rattle.geometry.specs.Range.{range}
 use Rattle.geometry.proofs.Range.{length-listed, listed-next}
 use Rattle.stairs.specs.declared.Step.{Step}
 use Rattle.stairs.specs.Line.{alongOf, signum}
-use Rattle.stairs.specs.Staircase.{differs, movedOf, bestOf, stepAlong, placeAt, stepAt, stepsTo, staircaseOf}
+use Rattle.stairs.specs.Staircase.{differs, steppedTo, bestOf, stepAlong, placeAt, stepAt, stepsTo, staircaseOf}
 use Rattle.stairs.specs.Claims.{ledBy, StaircaseArrives}
 use Rattle.stairs.proofs.Best.{best-low, best-left}
 use Rattle.stairs.proofs.Places.{long-place}
@@ -131,8 +131,8 @@ some-left d p b l = go (decLt (natAbs (alongOf p 0)) (natAbs (alongOf d 0))) (de
 module _ (d : List ℤ) where
   -- one step on from there
   next : (i : ℕ) → OnTheWay d i → (b : ℕ) → b < 3 → differs (alongOf (placeAt d i) b) (alongOf d b) ≡ true
-      → ((a : ℕ) → a < 3 → Between (alongOf (movedOf (placeAt d i) d b) a) (alongOf d a)) × (total (movedOf (placeAt d i) d b) ≡ i + 1)
-  unfolding movedOf
+      → ((a : ℕ) → a < 3 → Between (alongOf (steppedTo (placeAt d i) d b) a) (alongOf d a)) × (total (steppedTo (placeAt d i) d b) ≡ i + 1)
+  unfolding steppedTo
   next i h b m left =
       let n = step-nearer (alongOf (placeAt d i) b) (alongOf d b) (h .between b m) left in
       let long = long-place d i in
@@ -197,7 +197,7 @@ module _ (d : List ℤ) where
   led-snoc p (x ∷ steps) s = led-snoc (set p (x .axis - 1) (alongOf p (x .axis - 1) +ℤ cond (x .forward) (pos 1) (negsuc 0))) steps s
 
   led-step : (i : ℕ) → i < stepsTo d → ledBy (placeAt d i) (stepAt d i ∷ []) ≡ placeAt d (suc i)
-  unfolding ledBy placeAt stepAt stepAlong movedOf
+  unfolding ledBy placeAt stepAt stepAlong steppedTo
   led-step i l =
       let h = on-the-way i (omega arith) in
       let b = bestOf (placeAt d i) d in

@@ -9,7 +9,7 @@ use lib.Ieee.{Float, lt}
 use Rattle.complex.specs.Rounded.{fzero}
 use Rattle.stairs.specs.declared.Nearest.{Nearest}
 use Rattle.stairs.specs.Line.{alongOf}
-use Rattle.stairs.specs.Staircase.{differs, stepDist, leftOf, firstMin, firstOf, bestOf}
+use Rattle.stairs.specs.Staircase.{differs, stepDist, leftOf, firstMin, leastOf, bestOf}
 use Rattle.stairs.specs.Best.{betterOf}
 
 abbrev pub noneFound : Nearest
@@ -72,15 +72,15 @@ module _ (p d : List ℤ) where
       go true x y = less (lt (stepDist p d a) (stepDist p d best)) x y
       go false x y = x
 
-  begins : (axes : List ℕ) → over noneFound axes .axis ≡ firstOf (stepDist p d) (leftOf p d axes)
-  unfolding nearerOf betterOf leftOf firstOf
+  begins : (axes : List ℕ) → over noneFound axes .axis ≡ leastOf (stepDist p d) (leftOf p d axes)
+  unfolding nearerOf betterOf leftOf leastOf
   begins [] = refl
   begins (a ∷ axes) = go (differs (alongOf p a) (alongOf d a)) (begins axes) (goes-on a axes)
     where
       go : (left : Bool)
-          → over noneFound axes .axis ≡ firstOf (stepDist p d) (leftOf p d axes)
+          → over noneFound axes .axis ≡ leastOf (stepDist p d) (leftOf p d axes)
           → over (foundAt p d a) axes .axis ≡ firstMin (stepDist p d) a (leftOf p d axes)
-          → over (cond left (foundAt p d a) noneFound) axes .axis ≡ firstOf (stepDist p d) (cond left (a ∷ leftOf p d axes) (leftOf p d axes))
+          → over (cond left (foundAt p d a) noneFound) axes .axis ≡ leastOf (stepDist p d) (cond left (a ∷ leftOf p d axes) (leftOf p d axes))
       go true x y = y
       go false x y = x
 
@@ -105,8 +105,8 @@ module _ (f : ℕ → Float) (P : ℕ → Type 0) where
       go true = h .0
       go false = l
 
-  first-all : (axes : List ℕ) → (axes ≡ [] → P 0) → All P axes → P (firstOf f axes)
-  unfolding firstOf All
+  first-all : (axes : List ℕ) → (axes ≡ [] → P 0) → All P axes → P (leastOf f axes)
+  unfolding leastOf All
   first-all [] l h = l refl
   first-all (a ∷ axes) l h = min-all a axes (h .0) (h .1)
 

@@ -16,7 +16,7 @@ use Rattle.stairs.specs.declared.Step.{Step}
 use Rattle.stairs.specs.declared.Stairs.{Stairs}
 use Rattle.stairs.specs.Line.{alongOf, signum}
 use Rattle.stairs.specs.Offsets.{badOffsets}
-use Rattle.stairs.specs.Staircase.{movedOf, bestOf, stepAlong, placeAt, stepAt, stepsTo, staircaseOf, stairsOf, noStep, Near}
+use Rattle.stairs.specs.Staircase.{steppedTo, bestOf, stepAlong, placeAt, stepAt, stepsTo, staircaseOf, stairsOf, noStep, Reached}
 use Rattle.stairs.proofs.Whole.{moved-near, reach-low, each-offset}
 use Rattle.stairs.proofs.Best.{best-low}
 
@@ -26,7 +26,7 @@ pub place-none : (d : List ℤ) → pos 0 ∷ pos 0 ∷ pos 0 ∷ [] ≡ placeAt
 unfolding placeAt
 place-none d = refl
 
-pub place-next : (d : List ℤ) (i : ℕ) {p q : List ℤ} {a : ℕ} → p ≡ placeAt d i → a ≡ bestOf p d → q ≡ movedOf p d a → q ≡ placeAt d (i + 1)
+pub place-next : (d : List ℤ) (i : ℕ) {p q : List ℤ} {a : ℕ} → p ≡ placeAt d i → a ≡ bestOf p d → q ≡ steppedTo p d a → q ≡ placeAt d (i + 1)
 unfolding placeAt
 place-next d i e f g = rw (g, f, e, add-one)
 
@@ -35,13 +35,13 @@ unfolding stepAt
 step-is d i e f g = rw (g, f, e)
 
 pub long-place : (d : List ℤ) (i : ℕ) → length (placeAt d i) ≡ 3
-unfolding placeAt movedOf
+unfolding placeAt steppedTo
 long-place d zero = refl
 long-place d (suc i) = length-set (placeAt d i) _ _ ∙ long-place d i
 
 -- no further out than the steps taken
 place-near : (d : List ℤ) (i a : ℕ) → a < 3 → natAbs (alongOf (placeAt d i) a) ≤ i
-unfolding placeAt movedOf
+unfolding placeAt steppedTo
 place-near d zero zero l = omega arith
 place-near d zero (suc zero) l = omega arith
 place-near d zero (suc (suc zero)) l = omega arith
@@ -56,7 +56,7 @@ place-near d (suc i) a l = go (bestOf (placeAt d i) d) (best-low (placeAt d i) d
         let k = rw e at h in
         rw (e, getD-set-same (placeAt d i) b (alongOf (placeAt d i) b +ℤ signum (alongOf d b)) (pos 0) in-list) (omega arith)
 
-pub near : (d : List ℤ) (i : ℕ) {p : List ℤ} → p ≡ placeAt d i → i ≤ 96 → Near p
+pub near : (d : List ℤ) (i : ℕ) {p : List ℤ} → p ≡ placeAt d i → i ≤ 96 → Reached p
 near d i e l = record { each = λ a m. rw e (let h = place-near d i a m in omega arith) }
 
 -- ## so many steps

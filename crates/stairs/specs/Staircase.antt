@@ -17,12 +17,12 @@ unfoldable pub differs : ℤ → ℤ → Bool
 differs x y = ltZ x y || ltZ y x
 
 -- the place one step on along an axis
-unfoldable pub movedOf : List ℤ → List ℤ → ℕ → List ℤ
-movedOf p d a = set p a (alongOf p a +ℤ signum (alongOf d a))
+unfoldable pub steppedTo : List ℤ → List ℤ → ℕ → List ℤ
+steppedTo p d a = set p a (alongOf p a +ℤ signum (alongOf d a))
 
 -- its distance from the line
 abbrev pub stepDist : List ℤ → List ℤ → ℕ → Float
-stepDist p d a = lineDist (movedOf p d a) d
+stepDist p d a = lineDist (steppedTo p d a) d
 
 -- those of the axes along which something is left
 unfoldable pub leftOf : List ℤ → List ℤ → List ℕ → List ℕ
@@ -34,13 +34,13 @@ unfoldable pub firstMin : (ℕ → Float) → ℕ → List ℕ → ℕ
 firstMin f best [] = best
 firstMin f best (a ∷ axes) = firstMin f (cond (lt (f a) (f best)) a best) axes
 
-unfoldable pub firstOf : (ℕ → Float) → List ℕ → ℕ
-firstOf f [] = 0
-firstOf f (a ∷ axes) = firstMin f a axes
+unfoldable pub leastOf : (ℕ → Float) → List ℕ → ℕ
+leastOf f [] = 0
+leastOf f (a ∷ axes) = firstMin f a axes
 
 -- the axis of the step that keeps nearest to the line
 unfoldable pub bestOf : List ℤ → List ℤ → ℕ
-bestOf p d = firstOf (stepDist p d) (leftOf p d (0 ∷ 1 ∷ 2 ∷ []))
+bestOf p d = leastOf (stepDist p d) (leftOf p d (0 ∷ 1 ∷ 2 ∷ []))
 
 -- the step along it: x, y, z are the lattice's axes 1, 2, 3
 unfoldable pub stepAlong : List ℤ → ℕ → Step
@@ -51,7 +51,7 @@ stepAlong d a = record { axis = a + 1; forward = ltZ (pos 0) (alongOf d a) }
 -- the place after i steps
 unfoldable pub placeAt : List ℤ → ℕ → List ℤ
 placeAt d zero = pos 0 ∷ pos 0 ∷ pos 0 ∷ []
-placeAt d (suc i) = movedOf (placeAt d i) d (bestOf (placeAt d i) d)
+placeAt d (suc i) = steppedTo (placeAt d i) d (bestOf (placeAt d i) d)
 
 -- the step that leads on from there
 unfoldable pub stepAt : List ℤ → ℕ → Step
@@ -72,5 +72,5 @@ unfoldable pub stairsOf : List ℤ → Stairs
 stairsOf d = record { steps = staircaseOf d ++ replicate (96 - stepsTo d) noStep; count = stepsTo d }
 
 -- a place that so many steps can reach
-pub record Near (p : List ℤ) : Type 0 where
+pub record Reached (p : List ℤ) : Type 0 where
   pub each : (a : ℕ) → a < 3 → natAbs (alongOf p a) ≤ 96

@@ -4,7 +4,7 @@ ghost use mathlib.Core.Path.{_≡_};
 ghost use Prim.Native.Nat.{_<_, _≤_};
 ghost use lib.IntN.{natAbs, _+ℤ_};
 ghost use Rattle.stairs.specs.Line.{alongOf, realOf, signum, dot, lineDist};
-ghost use Rattle.stairs.specs.Staircase.{differs, movedOf, bestOf, Near};
+ghost use Rattle.stairs.specs.Staircase.{differs, steppedTo, bestOf, Reached};
 ghost use Rattle.stairs.specs.Best.{betterOf};
 
 // The number along an axis, as an f64.
@@ -82,8 +82,8 @@ fn toward(p: i32, d: i32) -> i32
 
 // The place one step on along an axis.
 pub fn moved(p: [i32; 3], d: [i32; 3], a: usize) -> [i32; 3]
-    requires { ⌜ Near p × (a < 3) ⌝ }
-    ensures { λ r. ⌜ r ≡ movedOf p d a ⌝ }
+    requires { ⌜ Reached p × (a < 3) ⌝ }
+    ensures { λ r. ⌜ r ≡ steppedTo p d a ⌝ }
 {
     let mut q = p;
     let x = toward(along(p, a), along(d, a));
@@ -109,7 +109,7 @@ fn nearer(best: Nearest, a: usize, dist: f64) -> Nearest
 
 // The axis of the step that keeps nearest to the line: of equally near ones the first. dd is d · d.
 pub fn best_axis(p: [i32; 3], d: [i32; 3], dd: f64) -> usize
-    requires { ⌜ Near p × (dd ≡ dot d d) ⌝ }
+    requires { ⌜ Reached p × (dd ≡ dot d d) ⌝ }
     ensures { λ r. ⌜ r ≡ bestOf p d ⌝ }
 {
     let mut best = Nearest {

@@ -11,8 +11,8 @@ use Rattle.rows.specs.Finite.{badNumbers}
 use Rattle.lattice.specs.Situations.{badNumber}
 
 -- as many +0
-abbrev pub zeros : List Float → List Float
-zeros l = replicate (length l) fzero
+abbrev pub zerosLike : List Float → List Float
+zerosLike l = replicate (length l) fzero
 
 -- 10: a number of the grid, the loops' sum or one of the densities' sums isn't finite
 unfoldable pub badSums : List Float → Float → List Float → Bool
@@ -22,7 +22,7 @@ badSums grid w s = badNumbers grid || badNumber w || badNumbers s
 abbrev pub sumsRow : List Float → List Float → Float → List Float → ℕ
 sumsRow grid s w sums = firstRow ((badSums (drop (length grid) s) w sums, 10) ∷ [])
 
-pub record Stored (w : Float) (sums grid s : List Float) (r : ℕ) (gridAfter after : List Float) : Type 0 where
+pub record SumsStored (w : Float) (sums grid s : List Float) (r : ℕ) (gridAfter after : List Float) : Type 0 where
   pub row : r ≡ sumsRow grid s w sums
   pub list : gridAfter ≡ ifAccepted (sumsRow grid s w sums) (drop (length grid) s) grid
-  pub cleared : after ≡ zeros s
+  pub cleared : after ≡ zerosLike s

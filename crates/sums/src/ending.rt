@@ -2,7 +2,7 @@ ghost use mathlib.Core.Path.{_≡_};
 ghost use mathlib.Core.Bool.{not};
 ghost use Prim.Native.Nat.{_+_, _≤_, min};
 ghost use lib.ListN.{length, drop};
-ghost use Rattle.sums.specs.Ending.{badSums, Stored};
+ghost use Rattle.sums.specs.Ending.{badSums, SumsStored};
 
 // So many more samples, at most 2^64 − 1.
 pub fn more_samples(samples: u64, sites: usize) -> u64
@@ -33,7 +33,7 @@ fn finite_sums(scratch: &[f64], g: usize, w: f64, s: [f64; 4]) -> bool
 // scratch is cleared.
 pub fn store(grid: &mut [f64], scratch: &mut [f64], w: f64, s: [f64; 4]) -> u32
     requires { ⌜ length (now scratch) ≡ length (now grid) + length (now grid) ⌝ }
-    ensures { λ r. ⌜ Stored w s (now (grid .entry)) (now (scratch .entry)) r (now (grid .exit)) (now (scratch .exit)) ⌝ }
+    ensures { λ r. ⌜ SumsStored w s (now (grid .entry)) (now (scratch .entry)) r (now (grid .exit)) (now (scratch .exit)) ⌝ }
 {
     let g = grid.len();
     if !finite_sums(scratch, g, w, s) {

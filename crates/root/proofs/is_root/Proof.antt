@@ -5,7 +5,7 @@ use Rattle.root.proofs.Assemble.{seen}
 use mathlib.Core.Path.{subst}
 use Prim.Native.Nat.{ℕ, _+_, _*_, _/_, _%_, _^_}
 use Rattle.root.proofs.Scaling.{scaled-in}
-use Rattle.root.specs.Root.{Near}
+use Rattle.root.specs.Root.{IsNearestRoot}
 use Rattle.root.proofs.is_root.Statement.{statement}
 use Rattle.root.proofs.is_root.Tie as tie
 
@@ -23,7 +23,7 @@ returns-2 c = λ e.
     let s = c .before .before .before .before in
     let d = c .before .before .before .wrapping-sub-u64 in
     seen (s .args .b) (s .args .w) (d .result) (s .pre .0) (s .pre .1) (s .fits .w .fits) (omega arith) (d .ensures)
-    (subst (λ (a : ℕ). Near (a * 2 ^ 52) (d .result * 2 ^ 26 + s .args .w % 2 ^ 26)) (c .before .scaled .ensures) (c .is-near .ensures e))
+    (subst (λ (a : ℕ). IsNearestRoot (a * 2 ^ 52) (d .result * 2 ^ 26 + s .args .w % 2 ^ 26)) (c .before .scaled .ensures) (c .is-near .ensures e))
 
 pub is-root-spec : {M : Type 1} → statement M
 is-root-spec = tie.close (tie.spec (λ c. search needs) (λ c. search needs) (λ c. search needs) (λ c κs. search needs) returns (λ c. search needs) (λ c κs. search needs) is-near-requires returns-2)

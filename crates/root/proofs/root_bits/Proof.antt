@@ -2,7 +2,7 @@ use borrow.Author.Needs.{needs}
 use mathlib.Core.Path.{subst, sym}
 use Prim.Native.Nat.{ℕ, _*_, _-_, _^_, _≤_, _<_}
 use native.Mathlib.Omega.{arith}
-use Rattle.root.specs.Root.{Near}
+use Rattle.root.specs.Root.{IsNearestRoot}
 use Rattle.root.proofs.Scaling.{scaled-in, near-in}
 use Rattle.root.proofs.Assemble.{bits-of}
 use Rattle.root.proofs.root_bits.Statement.{statement}
@@ -33,7 +33,7 @@ returns c =
     let p = at .decompose .result in
     let d = digits (c .before) in
     bits-of (at .before .args .b) (p .m) (p .g) (c .before .nearest-root .result) (at .decompose .ensures)
-    (subst (λ (a : ℕ). Near (a * 2 ^ 52) (c .before .nearest-root .result)) (c .before .before .scaled .ensures) (c .before .nearest-root .ensures)) (d .0) (d .1)
+    (subst (λ (a : ℕ). IsNearestRoot (a * 2 ^ 52) (c .before .nearest-root .result)) (c .before .before .scaled .ensures) (c .before .nearest-root .ensures)) (d .0) (d .1)
 
 pub root-bits-spec : {M : Type 1} → statement M
 root-bits-spec = tie.close (tie.spec (λ c κs. search needs) (λ c κs. search needs) nearest-root-requires (λ c. search needs) (λ c. search needs) add-result returns)

@@ -61,7 +61,7 @@ use Rattle.stairs.proofs.Step.Laws as T′
 use Rattle.baryon.specs.declared.Stair.{Stair}
 use Rattle.baryon.proofs.Stair as S
 use Rattle.baryon.proofs.Stair.Laws as S′
-use Rattle.stairs.specs.Staircase.{Near, noStep}
+use Rattle.stairs.specs.Staircase.{Reached, noStep}
 use Rattle.baryon.specs.Climb.{stairOpened, stairNext}
 use Rattle.baryon.specs.Calls.{StaircaseCall}
 use Rattle.baryon.proofs.Values.{word, Offset, offset-vals, offset-val, step-val, count-val, IsOffset, IsCountAnswer, tell-count, spells-count, makes-size, makes-offset, makes-step, makes-count, lawful-offset, lawful-step, lawful-count, start-fits, next-fits, nearer}
@@ -156,7 +156,7 @@ module _ {M : Type 1} (𝓤 : URA M) (H : Heap 𝓤) (A : Atoms 𝓤) (W : Given
     abbrev to-next : Next 𝓤 H A mem run .Ghost
     to-next = ((tt, tt, tt, (d, (w, tt)), (offset-vals d, (w-val w ∷ [], tt))), tt)
 
-    asks-next : Near (w .at) → ent 𝓤 (emp 𝓤) (Next 𝓤 H A mem run .pre to-next)
+    asks-next : Reached (w .at) → ent 𝓤 (emp 𝓤) (Next 𝓤 H A mem run .pre to-next)
     asks-next way =
         qed W [] ∵ says ! way $ nothing ! $ owned ! S.the-row (Is S.the-row) (makes-w 𝓤 H A W) w _ w-is $ fjoin ! $ owned ! Offset (Is Offset) (makes-offset 𝓤 H A W) d _ d-is $ fjoin ! $ nothing ! $ frame ! $ done !
 
