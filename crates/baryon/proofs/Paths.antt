@@ -20,7 +20,7 @@ use Rattle.geometry.specs.Steps.{fwdOf, bwdOf, spotOf}
 use Rattle.geometry.proofs.Shape.{fits-shape}
 use Rattle.links.specs.Field.{Field}
 use Rattle.gauge.specs.Field.{linkOf, Holds}
-use Rattle.lattice.specs.Situations.{badExtents, badLinks, badSite, badMatrix}
+use Rattle.field_judges.specs.Situations.{badExtents, badLinks, badSite, badMatrix}
 use Rattle.stairs.specs.declared.Step.{Step}
 use Rattle.paths.specs.declared.Walked.{Walked}
 use Rattle.paths.specs.Path.{Transporter, stepOf, stepsFrom, pathOf, lineOf, walkedOf}

@@ -11,7 +11,7 @@ use Rattle.rows.specs.Rows.{firstRow, ifAccepted, finally}
 use Rattle.rows.specs.Answers.{IsNumber, IsCount}
 use Rattle.mat.specs.Matrix.{zeroOf}
 use Rattle.gauge.specs.Field.{linkOf}
-use Rattle.lattice.specs.Situations.{badNumber, badMatrix}
+use Rattle.field_judges.specs.Situations.{badNumber, badMatrix}
 use Rattle.stairs.specs.declared.Step.{Step}
 use Rattle.stairs.specs.Staircase.{stepsTo, staircaseOf, noStep}
 use Rattle.paths.specs.Path.{Transporter, pathOf, lineOf}

@@ -5,8 +5,8 @@ use mathlib.Core.List.{List, [], _∷_}
 use lib.Dec.{ltb}
 use lib.ListN.{length}
 use lib.IntN.{ℤ}
-use Rattle.lattice.specs.Rows.{Rows}
-use Rattle.lattice.specs.Situations.{badExtents, badLinks, badSite}
+use Rattle.field_judges.specs.Rows.{Rows}
+use Rattle.field_judges.specs.Situations.{badExtents, badLinks, badSite}
 use Rattle.stairs.specs.declared.Step.{Step}
 use Rattle.stairs.specs.Offsets.{badOffsets, badQuarks, badTime}
 use Rattle.stairs.specs.Staircase.{stepsTo}

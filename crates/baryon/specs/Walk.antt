@@ -9,7 +9,7 @@ use Rattle.rows.specs.Rows.{firstRow, ifAccepted}
 use Rattle.mat.specs.Matrix.{identityOf, zeroOf}
 use Rattle.geometry.specs.Radix.{volume}
 use Rattle.gauge.specs.Field.{linkOf, Holds}
-use Rattle.lattice.specs.Situations.{badMatrix}
+use Rattle.field_judges.specs.Situations.{badMatrix}
 use Rattle.stairs.specs.declared.Step.{Step}
 use Rattle.paths.specs.Path.{Transporter, stepOf}
 use Rattle.baryon.specs.declared.PathAnswer.{PathAnswer}

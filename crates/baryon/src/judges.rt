@@ -26,7 +26,7 @@ pub fn stair_row(d: [i32; 3], room: usize) -> u32
 pub fn open_row(d: [usize; 4], long: usize, n: usize, count: usize) -> u32
     ensures { λ r. ⌜ Judged (openRows d long n count) (Shape d × (long ≡ 72 * volume d) × (n < volume d)) r ⌝ }
 {
-    let row = lattice::field_site_row(d, long, n);
+    let row = field_judges::field_site_row(d, long, n);
     if row != 0 {
         return row;
     }
@@ -39,7 +39,7 @@ pub fn open_row(d: [usize; 4], long: usize, n: usize, count: usize) -> u32
 pub fn line_row(d: [usize; 4], long: usize, n: usize, t: usize) -> u32
     ensures { λ r. ⌜ Judged (lineRows d long n t) (Shape d × (long ≡ 72 * volume d) × (n < volume d)) r ⌝ }
 {
-    let row = lattice::field_site_row(d, long, n);
+    let row = field_judges::field_site_row(d, long, n);
     if row != 0 {
         return row;
     }
@@ -52,7 +52,7 @@ pub fn line_row(d: [usize; 4], long: usize, n: usize, t: usize) -> u32
 pub fn loop_row(d: [usize; 4], long: usize, n: usize, o: [i32; 9], t: usize) -> u32
     ensures { λ r. ⌜ Judged (loopRows d long n o t) (Shape d × (long ≡ 72 * volume d) × (n < volume d) × (badQuarks o ≡ false)) r ⌝ }
 {
-    let row = lattice::field_site_row(d, long, n);
+    let row = field_judges::field_site_row(d, long, n);
     if row != 0 {
         return row;
     }

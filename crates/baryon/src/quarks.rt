@@ -22,5 +22,5 @@ pub fn baryon_loop(
     let c = stairs::staircase(stairs::offset(offsets, 2));
     let s = steps::strides(extents);
     let from = steps::spot(extents, site);
-    lattice::judged_number(contraction::baryon_loop(links, extents, s, from, a, b, c, t_len))
+    field_judges::judged_number(contraction::baryon_loop(links, extents, s, from, a, b, c, t_len))
 }

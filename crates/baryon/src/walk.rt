@@ -7,7 +7,7 @@ ghost use mathlib.Core.Path.{_≡_};
 ghost use mathlib.Core.List.{[], _∷_, map};
 ghost use Rattle.rows.specs.Rows.{firstRow};
 ghost use Rattle.mat.specs.Matrix.{zeroOf};
-ghost use Rattle.lattice.specs.Situations.{badMatrix};
+ghost use Rattle.field_judges.specs.Situations.{badMatrix};
 ghost use Rattle.baryon.specs.Walk.{Walkable, openedOf, steppedOf, closedOf};
 ghost use Rattle.baryon.specs.Codes.{stepOfCode};
 ghost use Rattle.baryon.specs.Calls.{pathAnswer, pathCall, lineCall};

@@ -18,8 +18,8 @@ use Rattle.geometry.proofs.Shape.{fits-shape, volume-high}
 use Rattle.links.specs.Field.{Field}
 use Rattle.sound.specs.Sound.{soundLink, unsoundLinks}
 use Rattle.sound.proofs.Unsound.{failing-few}
-use Rattle.lattice.specs.Situations.{badExtents}
-use Rattle.lattice.specs.Rows.{checkRows}
+use Rattle.field_judges.specs.Situations.{badExtents}
+use Rattle.field_judges.specs.Rows.{checkRows}
 use Rattle.sweep.specs.declared.Job.{Job}
 use Rattle.sweep.specs.declared.Opened.{Opened}
 use Rattle.sweep.specs.declared.Framed.{Framed}

@@ -26,7 +26,7 @@ use Rattle.strength.specs.Clover.{cloverOf, fquarter, strengthOf}
 use Rattle.strength.specs.Densities.{traceProduct, planeDensity, electricOf, actionDensityOf, chargeFactor, chargeDensityOf, densityOf, InSpace}
 use Rattle.fields.specs.Calls.{densityList}
 use Rattle.fields.specs.Claims.{SmallFieldsAreFinite}
-use Rattle.lattice.proofs.Listed.{finite-listed}
+use Rattle.field_judges.proofs.Listed.{finite-listed}
 
 magnitude-quarter : Magnitude 0 fquarter
 unfolding ofBits

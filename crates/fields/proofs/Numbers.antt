@@ -26,7 +26,7 @@ use Rattle.links.proofs.Laws.{link-same, link-other, number-below}
 use Rattle.gauge.specs.Field.{Holds, Link, partOf, listOf}
 use Rattle.gauge.proofs.Lists.{length-list, number-at, list-holds}
 use Rattle.rows.specs.Finite.{finiteNumbers}
-use Rattle.lattice.proofs.Listed.{same-test}
+use Rattle.field_judges.proofs.Listed.{same-test}
 
 -- ## one matrix for each link
 

@@ -9,8 +9,8 @@ use Rattle.mat.specs.declared.Su3.{Su3}
 use Rattle.mat.specs.Matrix.{finiteMatrix, nthMatrix}
 use Rattle.geometry.specs.Radix.{volume}
 use Rattle.strength.specs.declared.Density.{Density}
-use Rattle.lattice.specs.Rows.{Rows}
-use Rattle.lattice.specs.Situations.{badExtents, badLinks, badSite, badDirection}
+use Rattle.field_judges.specs.Rows.{Rows}
+use Rattle.field_judges.specs.Situations.{badExtents, badLinks, badSite, badDirection}
 
 -- ## Situations
 

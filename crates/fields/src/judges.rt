@@ -13,7 +13,7 @@ ghost use Rattle.fields.specs.Situations.{badAxis, stoutRows, smearRows,
 pub fn stout_row(d: [usize; 4], long: usize, n: usize, mu: usize) -> u32
     ensures { λ r. ⌜ Judged (stoutRows d long n mu) (Shape d × (long ≡ 72 * volume d) × (n < volume d) × (mu < 4)) r ⌝ }
 {
-    let row = lattice::field_site_row(d, long, n);
+    let row = field_judges::field_site_row(d, long, n);
     if row != 0 {
         return row;
     }
@@ -26,7 +26,7 @@ pub fn stout_row(d: [usize; 4], long: usize, n: usize, mu: usize) -> u32
 pub fn smear_row(d: [usize; 4], long: usize, second: usize) -> u32
     ensures { λ r. ⌜ Judged (smearRows d long second) (Shape d × (long ≡ 72 * volume d) × (second ≡ 72 * volume d)) r ⌝ }
 {
-    let row = lattice::field_row(d, long);
+    let row = field_judges::field_row(d, long);
     if row != 0 {
         return row;
     }
@@ -49,7 +49,7 @@ fn bad_axis(kind: Density) -> bool
 pub fn density_row(d: [usize; 4], long: usize, second: usize, kind: Density) -> u32
     ensures { λ r. ⌜ Judged (densityRows d long second kind) (Shape d × (long ≡ 72 * volume d) × (second ≡ volume d) × InSpace kind) r ⌝ }
 {
-    let row = lattice::field_row(d, long);
+    let row = field_judges::field_row(d, long);
     if row != 0 {
         return row;
     }

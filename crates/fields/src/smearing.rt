@@ -32,7 +32,7 @@ pub fn stout_link(
         };
     }
     let u = stout::stout_link(links, extents, site, mu, rho, TERMS);
-    lattice::judged_matrix(u)
+    field_judges::judged_matrix(u)
 }
 
 // Whether every number of the smeared links is finite.

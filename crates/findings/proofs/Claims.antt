@@ -11,7 +11,7 @@ use Rattle.geometry.specs.Radix.{volume}
 use Rattle.geometry.specs.Shape.{extentTest, fitsOf}
 use Rattle.geometry.specs.Order.{halfOf}
 use Rattle.geometry.proofs.Shape.{fits-shape, volume-pos}
-use Rattle.lattice.specs.Situations.{badExtents}
+use Rattle.field_judges.specs.Situations.{badExtents}
 use Rattle.lattice.proofs.Frozen.{every-link-is-identity}
 use Rattle.findings.specs.Findings.{Small, coldField, findingsOf}
 use Rattle.findings.specs.Columns.{Finite, badInput, badSites, inputRows, fieldLines, frameLines, columnsOf}

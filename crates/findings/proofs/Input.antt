@@ -14,8 +14,8 @@ use Rattle.rows.specs.Answers.{IsCount}
 use Rattle.rows.proofs.Laws.{value-case, refused-case, no-row, row-holds, row-passes, row-passed, rows-refuse, if-accepted, if-refused, count-refused, count-accepted}
 use Rattle.geometry.specs.Radix.{volume}
 use Rattle.geometry.proofs.Shape.{fits-shape}
-use Rattle.lattice.specs.Situations.{badExtents}
-use Rattle.lattice.specs.Rows.{extentsRows}
+use Rattle.field_judges.specs.Situations.{badExtents}
+use Rattle.field_judges.specs.Rows.{extentsRows}
 use Rattle.io.specs.Counts.{Counts}
 use Rattle.ascii.specs.Lines.{ascii, decimalText, textLine}
 use Rattle.ascii.specs.Laid.{Laid}

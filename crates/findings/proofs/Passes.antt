@@ -14,11 +14,11 @@ use Rattle.geometry.specs.Radix.{volume}
 use Rattle.geometry.proofs.Shape.{shape-fits, volume-pos}
 use Rattle.gauge.specs.Plaquette.{fsix}
 use Rattle.gauge.specs.Polyakov.{polyakovOf}
-use Rattle.lattice.specs.Situations.{badExtents, badCoupling, badLinks, badSite, badDirection, badNumber, badPair}
-use Rattle.lattice.specs.Rows.{fieldRows}
+use Rattle.field_judges.specs.Situations.{badExtents, badCoupling, badLinks, badSite, badDirection, badNumber, badPair}
+use Rattle.field_judges.specs.Rows.{fieldRows}
 use Rattle.lattice.specs.Cold.{coldLinks, coldRow}
 use Rattle.lattice.specs.Answers.{averageRow, actionRow}
-use Rattle.lattice.proofs.Laws.{good-extents, good-links, good-site}
+use Rattle.field_judges.proofs.Laws.{good-extents, good-links, good-site}
 use Rattle.lattice.proofs.Frozen.{length-identities, every-link-is-identity}
 use Rattle.stairs.specs.Offsets.{badOffset, badOffsets, offsetOf, badQuarks, badTime}
 use Rattle.baryon.specs.Situations.{loopRows}

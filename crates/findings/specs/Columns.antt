@@ -8,8 +8,8 @@ use lib.Ieee.Scale.{finite}
 use lib.ListN.{length, drop}
 use Rattle.rows.specs.Rows.{firstRow, ifAccepted}
 use Rattle.geometry.specs.Radix.{volume}
-use Rattle.lattice.specs.Rows.{Rows}
-use Rattle.lattice.specs.Situations.{badExtents}
+use Rattle.field_judges.specs.Rows.{Rows}
+use Rattle.field_judges.specs.Situations.{badExtents}
 use Rattle.ascii.specs.Lines.{ascii, decimalText, numberText, textLine}
 use Rattle.findings.specs.declared.Findings.{Findings}
 use Rattle.findings.specs.declared.Frames.{Frames}

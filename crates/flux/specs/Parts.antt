@@ -8,8 +8,8 @@ use lib.ListN.{length, getD, drop}
 use Rattle.geometry.specs.Radix.{volume}
 use Rattle.geometry.specs.Shape.{Extent, Shape}
 use Rattle.rows.specs.Rows.{ifAccepted}
-use Rattle.lattice.specs.Rows.{Rows}
-use Rattle.lattice.specs.Situations.{badExtents, badLinks}
+use Rattle.field_judges.specs.Rows.{Rows}
+use Rattle.field_judges.specs.Situations.{badExtents, badLinks}
 use Rattle.stairs.specs.Offsets.{badQuarks, badTime}
 use Rattle.slices.specs.Slices.{places}
 use Rattle.sums.specs.Ending.{zerosLike, sumsRow}

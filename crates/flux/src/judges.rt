@@ -124,7 +124,7 @@ fn size_row(
 ) -> u32
     ensures { λ r. ⌜ Judged (sizeRows d n count links densities grid scratch) (Sizes d n count links densities grid scratch) r ⌝ }
 {
-    let row = lattice::extents_row(d);
+    let row = field_judges::extents_row(d);
     if row != 0 {
         return row;
     }

@@ -16,7 +16,7 @@ impl FluxAccumulator {
         if row != 0 {
             return Number::Refused(row);
         }
-        lattice::judged_number(mean(self.w, self.samples))
+        field_judges::judged_number(mean(self.w, self.samples))
     }
 
     // The correlation of the loop with the k-th density at every offset: first every number is tested, and

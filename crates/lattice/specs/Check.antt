@@ -9,7 +9,7 @@ use Rattle.rows.specs.Rows.{firstRow}
 use Rattle.rows.specs.Answers.{IsCount}
 use Rattle.gauge.specs.Field.{linkOf}
 use Rattle.sound.specs.Sound.{unsoundLinks, Listed}
-use Rattle.lattice.specs.Rows.{checkRows}
+use Rattle.field_judges.specs.Rows.{checkRows}
 
 abbrev pub checkRow : List ℕ → List Float → List ℕ → ℕ
 checkRow d l found = firstRow (checkRows d (length l) (length found))

@@ -1,4 +1,4 @@
-use crate::judges::check_row;
+use field_judges::check_row;
 use rows::Count;
 ghost use Rattle.lattice.specs.Check.{CheckCall};
 

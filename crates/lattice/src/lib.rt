@@ -2,22 +2,13 @@
 // order, and answers the row's number or what its definition says.
 mod check;
 mod cold_start;
-mod judges;
 mod observables;
 mod sites;
 
 pub use check::link_check;
 pub use cold_start::cold;
-pub use judges::bad_coupling;
-pub use judges::extents_row;
-pub use judges::field_row;
-pub use judges::field_site_row;
-pub use judges::link_row;
-pub use judges::plane_row;
 pub use observables::action;
 pub use observables::average_plaquette;
-pub use observables::judged_matrix;
-pub use observables::judged_number;
 pub use observables::plaquette;
 pub use observables::polyakov_loop;
 pub use observables::staple;

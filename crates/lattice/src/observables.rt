@@ -1,46 +1,20 @@
 use crate::LoopAnswer;
 use crate::Plan;
-use crate::judges::field_row;
-use crate::judges::link_row;
-use crate::judges::plan_row;
-use crate::judges::plane_row;
 use complex::C64;
+use field_judges::field_row;
+use field_judges::judged_matrix;
+use field_judges::judged_number;
+use field_judges::link_row;
+use field_judges::plan_row;
+use field_judges::plane_row;
 use mat::MatrixAnswer;
 use mat::Su3;
 use rows::Number;
 ghost use mathlib.Core.Path.{_≡_};
 ghost use mathlib.Core.List.{[], _∷_};
 ghost use Rattle.rows.specs.Rows.{firstRow};
-ghost use Rattle.rows.specs.Answers.{numberOf};
-ghost use Rattle.mat.specs.Answers.{matrixAnswer};
-ghost use Rattle.lattice.specs.Situations.{badNumber, badPair, badMatrix};
+ghost use Rattle.field_judges.specs.Situations.{badPair};
 ghost use Rattle.lattice.specs.Answers.{loopAnswer, plaquetteCall, stapleCall, AverageCall, ActionCall, loopCall};
-
-// A matrix as an answer: row 10 where one of its numbers isn't finite.
-pub fn judged_matrix(u: Su3) -> MatrixAnswer
-    ensures { λ r. ⌜ r ≡ matrixAnswer (firstRow ((badMatrix u, 10) ∷ [])) u ⌝ }
-{
-    if !u.is_finite() {
-        return MatrixAnswer {
-            refusal: 10,
-            matrix: Su3::ZERO,
-        };
-    }
-    MatrixAnswer {
-        refusal: 0,
-        matrix: u,
-    }
-}
-
-// A number as an answer.
-pub fn judged_number(x: f64) -> Number
-    ensures { λ r. ⌜ r ≡ numberOf (firstRow ((badNumber x, 10) ∷ [])) x ⌝ }
-{
-    if !rows::is_finite(x) {
-        return Number::Refused(10);
-    }
-    Number::Value(x)
-}
 
 // A complex number as an answer.
 fn judged_pair(z: C64) -> LoopAnswer

@@ -16,7 +16,7 @@ use Rattle.geometry.proofs.Order.{count-sites}
 use Rattle.gauge.specs.Field.{linkOf, listOf}
 use Rattle.gauge.proofs.Lists.{Same, length-list, links-of}
 use Rattle.lattice.specs.declared.Plan.{Plan}
-use Rattle.lattice.proofs.Laws.{bad-links, good-links}
+use Rattle.field_judges.proofs.Laws.{bad-links, good-links}
 use Rattle.visits.specs.Visits.{stuckAmong, segment, overrelax, overrelaxedField, stuckLinks}
 use Rattle.sweep.specs.Jobs.{InRange, newJob, counted, openCall, openRow, frameRow, frameSites, frameAnswer, frameLinks, finishedRows, finishedCall}
 use Rattle.sweep.specs.RunOfFrames.{Frame, Between, opened, answerOf, next, run, acceptedSum, OthersMisfit, Answered, firstSites, Swept, FramesAreVisits}

@@ -12,8 +12,8 @@ use Rattle.links.specs.Field.{Field}
 use Rattle.update.specs.declared.Updated.{Updated}
 use Rattle.gauge.specs.Field.{linkOf, listOf}
 use Rattle.lattice.specs.declared.Plan.{Plan}
-use Rattle.lattice.specs.Situations.{badExtents, badCoupling, badLinks, badDirection}
-use Rattle.lattice.specs.Rows.{Rows}
+use Rattle.field_judges.specs.Situations.{badExtents, badCoupling, badLinks, badDirection}
+use Rattle.field_judges.specs.Rows.{Rows}
 use Rattle.sweep.specs.declared.Job.{Job}
 use Rattle.sweep.specs.declared.Opened.{Opened}
 use Rattle.sweep.specs.declared.Framed.{Framed}

@@ -13,11 +13,11 @@ pub fn open_row(plan: Plan, direction: usize, parity: usize) -> u32
     ensures { λ r. ⌜ Judged (openRows plan direction parity) (plan .pass ≡ 2 ^ 64 - 1 → ⊥) r ⌝ }
 {
     let d = plan.extents;
-    let row = lattice::extents_row(d);
+    let row = field_judges::extents_row(d);
     if row != 0 {
         return row;
     }
-    if lattice::bad_coupling(plan.coupling) {
+    if field_judges::bad_coupling(plan.coupling) {
         return 2;
     }
     if direction > 3 {
@@ -53,7 +53,7 @@ pub fn frame_row(job: Job, long: usize) -> u32
     ensures { λ r. ⌜ Judged (frameRows job long) (Shape (job .extents) × (long ≡ 72 * volume (job .extents)) × InRange job) r ⌝ }
 {
     let d = job.extents;
-    let row = lattice::field_row(d, long);
+    let row = field_judges::field_row(d, long);
     if row != 0 {
         return row;
     }
@@ -67,7 +67,7 @@ pub fn finished_row(job: Job) -> u32
     ensures { λ r. ⌜ Judged (finishedRows job) (Shape (job .extents)) r ⌝ }
 {
     let d = job.extents;
-    let row = lattice::extents_row(d);
+    let row = field_judges::extents_row(d);
     if row != 0 {
         return row;
     }

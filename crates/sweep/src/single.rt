@@ -37,7 +37,7 @@ pub fn overrelax_link(plan: Plan, site: usize, mu: usize, links: &[f64]) -> Matr
     ensures { λ r. ⌜ r ≡ overrelaxLinkCall plan site mu (now (links .entry)) ⌝ }
 {
     let d = plan.extents;
-    let row = lattice::link_row(d, plan.coupling, links.len(), site, mu);
+    let row = field_judges::link_row(d, plan.coupling, links.len(), site, mu);
     if row != 0 {
         return MatrixAnswer {
             refusal: row,

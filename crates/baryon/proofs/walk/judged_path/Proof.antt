@@ -3,7 +3,7 @@ use mathlib.Core.Path.{_≡_, refl, ap, sym, _∙_}
 use mathlib.Core.List.{[]}
 use borrow.Author.Tests.{not-true, not-false}
 use Rattle.rows.proofs.Laws.{no-row, row-holds, row-passes}
-use Rattle.lattice.specs.Situations.{badMatrix}
+use Rattle.field_judges.specs.Situations.{badMatrix}
 use Rattle.baryon.proofs.Laws.{path-refused, path-accepted}
 use borrow.Author.Needs.{needs}
 use Rattle.baryon.proofs.walk.judged_path.Statement.{statement}

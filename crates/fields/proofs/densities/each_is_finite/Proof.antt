@@ -13,7 +13,7 @@ use Rattle.geometry.proofs.Shape.{volume-pos}
 use Rattle.gauge.specs.Field.{linkOf}
 use Rattle.strength.specs.Densities.{densityOf}
 use Rattle.fields.specs.Calls.{densityList}
-use Rattle.lattice.proofs.Listed.{finite-listed}
+use Rattle.field_judges.proofs.Listed.{finite-listed}
 use Rattle.fields.proofs.densities.each_is_finite.Statement.{statement}
 use Rattle.fields.proofs.densities.each_is_finite.Tie as tie
 

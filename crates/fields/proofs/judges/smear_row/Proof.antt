@@ -3,7 +3,7 @@ use native.Mathlib.Omega.{arith}
 use borrow.Author.Needs.{needs}
 use Rattle.rows.proofs.Laws.{no-row, row-holds, row-passes, refuses, accepts, first-refuses, first-passes}
 use Rattle.geometry.proofs.Shape.{volume-high}
-use Rattle.lattice.proofs.Laws.{bad-links, good-links}
+use Rattle.field_judges.proofs.Laws.{bad-links, good-links}
 use Rattle.fields.proofs.judges.smear_row.Statement.{statement}
 use Rattle.fields.proofs.judges.smear_row.Tie as tie
 

@@ -2,7 +2,7 @@ use mathlib.Core.Path.{refl, _∙_}
 use native.Mathlib.Omega.{arith}
 use borrow.Author.Needs.{needs}
 use Rattle.rows.proofs.Laws.{no-row, row-holds, row-passes, refuses, accepts, first-refuses, first-passes}
-use Rattle.lattice.proofs.Laws.{bad-direction, good-direction}
+use Rattle.field_judges.proofs.Laws.{bad-direction, good-direction}
 use Rattle.fields.proofs.judges.stout_row.Statement.{statement}
 use Rattle.fields.proofs.judges.stout_row.Tie as tie
 

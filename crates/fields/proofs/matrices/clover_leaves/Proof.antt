@@ -1,7 +1,7 @@
 use mathlib.Core.Path.{_∙_}
 use borrow.Author.Needs.{needs}
 use Rattle.rows.proofs.Laws.{first-row, last-row}
-use Rattle.lattice.proofs.Laws.{matrix-kept}
+use Rattle.field_judges.proofs.Laws.{matrix-kept}
 use Rattle.fields.specs.Calls.{cloverCall}
 use Rattle.fields.proofs.matrices.clover_leaves.Statement.{statement}
 use Rattle.fields.proofs.matrices.clover_leaves.Tie as tie

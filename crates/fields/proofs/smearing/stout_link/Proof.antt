@@ -1,7 +1,7 @@
 use mathlib.Core.Path.{_∙_}
 use borrow.Author.Needs.{needs}
 use Rattle.rows.proofs.Laws.{first-row, last-row}
-use Rattle.lattice.proofs.Laws.{matrix-kept}
+use Rattle.field_judges.proofs.Laws.{matrix-kept}
 use Rattle.fields.specs.Calls.{stoutCall}
 use Rattle.fields.proofs.smearing.stout_link.Statement.{statement}
 use Rattle.fields.proofs.smearing.stout_link.Tie as tie

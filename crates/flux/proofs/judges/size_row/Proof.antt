@@ -2,14 +2,14 @@ use mathlib.Core.List.{[], _∷_}
 use mathlib.Core.Path.{_≡_, refl, _∙_}
 use Rattle.geometry.specs.Shape.{Shape}
 use Rattle.rows.specs.Rows.{firstRow}
-use Rattle.lattice.specs.Situations.{badLinks}
+use Rattle.field_judges.specs.Situations.{badLinks}
 use Rattle.flux.specs.Situations.{badDensities, badGridList, badScratch}
 use Rattle.flux.specs.Parts.{sizeRows}
 use native.Mathlib.Nat.{mul-le-mul, le-of-lt}
 use native.Mathlib.Omega.{arith}
 use Rattle.rows.proofs.Laws.{no-row, row-holds, row-passes, refuses, accepts, first-refuses, first-passes}
 use Rattle.geometry.proofs.Shape.{volume-high}
-use Rattle.lattice.proofs.Laws.{bad-links, good-links}
+use Rattle.field_judges.proofs.Laws.{bad-links, good-links}
 use Rattle.flux.proofs.Situations.{bad-densities, good-densities, bad-grid-list, good-grid-list, bad-scratch, good-scratch}
 use Rattle.rows.proofs.Laws.{next-refuses, next-passes}
 use borrow.Author.Needs.{needs}

@@ -2,7 +2,7 @@ use mathlib.Core.Path.{sym, _∙_}
 use borrow.Author.Tests.{not-true, not-false}
 use Rattle.rows.specs.Rows.{firstRow, ifAccepted}
 use Rattle.lattice.specs.Answers.{loopAnswer}
-use Rattle.lattice.specs.Situations.{badPair}
+use Rattle.field_judges.specs.Situations.{badPair}
 use borrow.Author.Needs.{needs}
 use Rattle.lattice.proofs.observables.judged_pair.Statement.{statement}
 use Rattle.lattice.proofs.observables.judged_pair.Tie as tie

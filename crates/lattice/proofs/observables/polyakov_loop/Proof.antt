@@ -1,10 +1,17 @@
-use mathlib.Core.Path.{_∙_}
-use Rattle.rows.proofs.Laws.{first-row, last-row}
-use Rattle.lattice.specs.Answers.{loopCall}
-use Rattle.lattice.proofs.Laws.{loop-kept}
+use Prim.Native.Nat.{ℕ}
+use mathlib.Core.Path.{_≡_, _∙_}
+use Rattle.rows.proofs.Laws.{if-refused, first-row, last-row}
+use Rattle.complex.specs.declared.C64.{C64}
+use Rattle.complex.specs.Rounded.{fzero}
+use Rattle.complex.specs.Complex.{czero}
+use Rattle.lattice.specs.Answers.{loopAnswer, loopCall}
 use borrow.Author.Needs.{needs}
 use Rattle.lattice.proofs.observables.polyakov_loop.Statement.{statement}
 use Rattle.lattice.proofs.observables.polyakov_loop.Tie as tie
+
+loop-kept : {r row : ℕ} (z : C64) → r ≡ row → (r ≡ 0 → ⊥) → record { refusal = r; re = fzero; im = fzero } ≡ loopAnswer row z
+unfolding loopAnswer
+loop-kept {r} {row} z same ne = rw (← same, if-refused z czero r ne)
 
 returns : tie.Need-returns
 unfolding loopCall

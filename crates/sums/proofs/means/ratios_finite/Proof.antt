@@ -9,7 +9,7 @@ use Rattle.loops.specs.Loops.{allBelow}
 use Rattle.loops.proofs.Laws.{all-none, all-next, all-fails}
 use Rattle.slices.specs.Slices.{number}
 use Rattle.sums.specs.Means.{ratio}
-use Rattle.lattice.proofs.Listed.{finite-listed}
+use Rattle.field_judges.proofs.Listed.{finite-listed}
 use Rattle.sums.proofs.means.ratios_finite.Statement.{statement}
 use Rattle.sums.proofs.means.ratios_finite.Tie as tie
 

@@ -5,8 +5,8 @@ use mathlib.Core.Path.{_≡_, refl, sym, _∙_}
 use borrow.Author.Needs.{needs}
 use Rattle.rows.specs.Rows.{firstRow}
 use Rattle.rows.proofs.Laws.{no-row, row-holds, row-passes, refuses, accepts, first-refuses, first-passes}
-use Rattle.lattice.specs.Situations.{badExtents}
-use Rattle.lattice.proofs.Laws.{bad-direction, good-direction}
+use Rattle.field_judges.specs.Situations.{badExtents}
+use Rattle.field_judges.proofs.Laws.{bad-direction, good-direction}
 use Rattle.sweep.proofs.Laws.{bad-parity, good-parity, bad-pass, good-pass}
 use Rattle.sweep.proofs.judges.open_row.Statement.{statement}
 use Rattle.sweep.proofs.judges.open_row.Tie as tie

@@ -1,6 +1,6 @@
 use mathlib.Core.Path.{_∙_}
 use Rattle.rows.proofs.Laws.{first-row, last-row}
-use Rattle.lattice.proofs.Laws.{matrix-kept}
+use Rattle.field_judges.proofs.Laws.{matrix-kept}
 use Rattle.sweep.specs.Single.{overrelaxLinkCall}
 use borrow.Author.Needs.{needs}
 use Rattle.sweep.proofs.single.overrelax_link.Statement.{statement}
