@@ -21,11 +21,11 @@ mod lattice;
 mod mat;
 mod reference;
 mod refusals;
-mod replay;
 mod root;
 mod rows;
 mod sample;
 mod stopwatch;
+mod stored;
 mod sweep;
 mod tally;
 mod times;
@@ -51,9 +51,12 @@ const GROUPS: [Group; 12] = [
     ("fields", gluons::compare),
     ("baryon", baryon::compare),
     ("refusals", refusals::compare),
-    ("replay", replay::compare),
-    ("columns", columns::compare),
+    ("replay", stored::replay),
+    ("columns_cases", stored::columns_cases),
 ];
+
+/// Programs that are handed their input in pieces, with a pause between, while nothing else runs.
+const PROGRAMS: Group = ("columns", columns::compare);
 
 fn main() -> ExitCode {
     match std::env::args().nth(1).as_deref() {
@@ -72,25 +75,27 @@ fn print(text: &str) -> ExitCode {
     ExitCode::SUCCESS
 }
 
-/// Compares all groups side by side and prints each one's tally, in the order of the list.
+/// Compares all groups, side by side, then the programs, and prints each one's tally in this order.
 fn tallies() -> Tally {
     let mut total = Tally::default();
     thread::scope(|scope| {
-        let started = GROUPS.map(|(name, compare)| {
-            let group = scope.spawn(move || {
-                let mut tally = Tally::default();
-                compare(&mut tally);
-                tally
-            });
-            (name, group)
-        });
+        let started = GROUPS.map(|group| (group.0, scope.spawn(move || tally(group))));
         for (name, group) in started {
             let tally = group.join().unwrap_or_else(|panic| resume_unwind(panic));
             println!("{name}: {tally}");
             total.absorb(tally);
         }
     });
+    let programs = tally(PROGRAMS);
+    println!("{}: {programs}", PROGRAMS.0);
+    total.absorb(programs);
     total
+}
+
+fn tally((_, compare): Group) -> Tally {
+    let mut tally = Tally::default();
+    compare(&mut tally);
+    tally
 }
 
 fn compare() -> ExitCode {

@@ -1,11 +1,11 @@
 -- Steps as bytes: a path along them, and a staircase of them.
 use Prim.Native.Nat.{ℕ, zero, suc, _+_, _*_, _-_, _<_, _≤_}
-use mathlib.Core.Bool.{Bool, true, false}
-use mathlib.Core.List.{List, [], _∷_, _++_, map, map-map}
+use mathlib.Core.Bool.{true, false}
+use mathlib.Core.List.{List, _++_, map, map-map}
 use mathlib.Core.Path.{_≡_, refl, ap, sym, _∙_}
 use native.Mathlib.Numerals.{add-one}
 use native.Mathlib.Omega.{arith}
-use lib.ListN.{length, getD, set, drop, replicate, drop-of-length-le, length-map, List·getD-append}
+use lib.ListN.{length, getD, drop, replicate, drop-of-length-le, length-map, List·getD-append}
 use lib.Seq.{drop-cons}
 use lib.Ieee.{Float}
 use lib.IntN.{ℤ}

@@ -19,14 +19,14 @@ use Rattle.geometry.specs.declared.Spot.{Spot}
 use Rattle.geometry.specs.Steps.{fwdOf, bwdOf, spotOf}
 use Rattle.geometry.proofs.Shape.{fits-shape}
 use Rattle.links.specs.Field.{Field}
-use Rattle.gauge.specs.Field.{linkOf, Holds}
+use Rattle.gauge.specs.Field.{linkOf}
 use Rattle.field_judges.specs.Situations.{badExtents, badLinks, badSite, badMatrix}
 use Rattle.stairs.specs.declared.Step.{Step}
 use Rattle.paths.specs.declared.Walked.{Walked}
 use Rattle.paths.specs.Path.{Transporter, stepOf, stepsFrom, pathOf, lineOf, walkedOf}
 use Rattle.paths.proofs.Walks.{spot-site, step-below}
 use Rattle.baryon.specs.declared.PathAnswer.{PathAnswer}
-use Rattle.baryon.specs.Situations.{badAxes, openRows, lineRows}
+use Rattle.baryon.specs.Situations.{badAxes, walkRows, lineRows}
 use Rattle.baryon.specs.Calls.{pathAnswer, pathCall, lineCall}
 use Rattle.baryon.specs.Walk.{Walkable, transporterOf, openedOf, steppedOf, closedOf}
 
@@ -41,7 +41,7 @@ accepted t = record { refusal = 0; matrix = t .u; site = t .site }
 refused-walkable : (d : List ℕ) (l : List Float) (w : PathAnswer) → (w .refusal ≡ 0 → ⊥) → Walkable d l w
 refused-walkable d l w ne = record { holds = λ e. absurd (ne e); below = λ e. absurd (ne e) }
 
-passed : (d : List ℕ) → length d ≡ 4 → (long n count : ℕ) → firstRow (openRows d long n count) ≡ 0 → Shape d × (long ≡ 72 * volume d) × (n < volume d)
+passed : (d : List ℕ) → length d ≡ 4 → (long n count : ℕ) → firstRow (walkRows d long n count) ≡ 0 → Shape d × (long ≡ 72 * volume d) × (n < volume d)
 unfolding badExtents badLinks badSite
 passed d four long n count e =
     let first = row-passed _ _ _ e in
@@ -128,7 +128,7 @@ module _ (d : List ℕ) (l : List Float) where
 
   module _ (n : ℕ) (steps : List Step) where
     abbrev open-rows : List (Bool × ℕ)
-    open-rows = openRows d (length l) n (length steps)
+    open-rows = walkRows d (length l) n (length steps)
 
     abbrev end : Transporter
     end = pathOf d U n steps

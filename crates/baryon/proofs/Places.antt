@@ -1,25 +1,22 @@
 -- The staircase on the way is the staircase: its places, its steps, its number.
 use Prim.Native.Nat.{ℕ, zero, suc, _≤_, _<_, zero-le}
-use mathlib.Core.Bool.{Bool, true, false}
-use mathlib.Core.List.{List, [], _∷_, _++_, map}
+use mathlib.Core.Bool.{false}
+use mathlib.Core.List.{List, _++_}
 use mathlib.Core.Path.{_≡_, refl, ap, fun-ext, _∙_}
-use native.Mathlib.Numerals.{add-one}
 use native.Mathlib.Omega.{arith}
 use borrow.Author.Tests.{ltb-false}
 use lib.ListN.{length, drop}
-use lib.IntN.{ℤ, pos}
+use lib.IntN.{ℤ}
 use Rattle.loops.specs.Loops.{fill}
-use Rattle.loops.proofs.Laws.{fill-none}
 use Rattle.rows.specs.declared.Count.{Count}
 use Rattle.rows.specs.Rows.{firstRow, ifAccepted}
-use Rattle.rows.specs.Answers.{countOf, IsCount}
-use Rattle.rows.proofs.Laws.{row-passed, if-refused, if-accepted, is-count}
-use Rattle.geometry.specs.Range.{range}
+use Rattle.rows.specs.Answers.{countOf}
+use Rattle.rows.proofs.Laws.{row-passed, is-count}
 use Rattle.geometry.proofs.Range.{fill-front}
 use Rattle.stairs.specs.declared.Step.{Step}
 use Rattle.stairs.specs.Offsets.{badOffsets}
 use Rattle.stairs.specs.Staircase.{Reached, placeAt, stepAt, stepsTo, staircaseOf}
-use Rattle.stairs.proofs.Places.{near, place-next, step-is, steps-low}
+use Rattle.stairs.proofs.Places.{near, steps-low}
 use Rattle.baryon.specs.declared.Stair.{Stair}
 use Rattle.baryon.specs.Situations.{badStepRoom, stairRows}
 use Rattle.baryon.specs.Climb.{stairOpened, stairNext}

@@ -1,11 +1,11 @@
--- The situations that these calls add to the lattice's, and their rows in the order in which they are tried; row 10 comes after them.
+-- The situations that these calls add to those of `field_judges`, and their rows in the order in which they are tried; row 10 comes after them.
 use Prim.Native.Nat.{ℕ}
 use mathlib.Core.Bool.{Bool, false, _||_}
 use mathlib.Core.List.{List, [], _∷_}
 use lib.Dec.{ltb}
 use lib.ListN.{length}
 use lib.IntN.{ℤ}
-use Rattle.field_judges.specs.Rows.{Rows}
+use Rattle.field_judges.specs.Rows.{RowList}
 use Rattle.field_judges.specs.Situations.{badExtents, badLinks, badSite}
 use Rattle.stairs.specs.declared.Step.{Step}
 use Rattle.stairs.specs.Offsets.{badOffsets, badQuarks, badTime}
@@ -27,20 +27,20 @@ badStepRoom d room = ltb room (stepsTo d)
 -- ## Rows: d are extents, long the number of link numbers, n a site
 
 -- staircase; o is the offset
-abbrev pub stairRows : List ℤ → ℕ → Rows
+abbrev pub stairRows : List ℤ → ℕ → RowList
 stairRows o room = (badOffsets o, 11) ∷ (badStepRoom o room, 12) ∷ []
 
 -- path, before and after its steps are looked at
-abbrev pub openRows : List ℕ → ℕ → ℕ → ℕ → Rows
-openRows d long n count = (badExtents d, 1) ∷ (badLinks d long, 3) ∷ (badSite d n, 4) ∷ (manySteps count, 11) ∷ []
+abbrev pub walkRows : List ℕ → ℕ → ℕ → ℕ → RowList
+walkRows d long n count = (badExtents d, 1) ∷ (badLinks d long, 3) ∷ (badSite d n, 4) ∷ (manySteps count, 11) ∷ []
 
-abbrev pub pathRows : List ℕ → ℕ → ℕ → List Step → Rows
+abbrev pub pathRows : List ℕ → ℕ → ℕ → List Step → RowList
 pathRows d long n steps = (badExtents d, 1) ∷ (badLinks d long, 3) ∷ (badSite d n, 4) ∷ (manySteps (length steps), 11) ∷ (badAxes steps, 11) ∷ []
 
 -- time_line
-abbrev pub lineRows : List ℕ → ℕ → ℕ → ℕ → Rows
+abbrev pub lineRows : List ℕ → ℕ → ℕ → ℕ → RowList
 lineRows d long n t = (badExtents d, 1) ∷ (badLinks d long, 3) ∷ (badSite d n, 4) ∷ (badTime t, 11) ∷ []
 
 -- baryon_loop; o are the three offsets
-abbrev pub loopRows : List ℕ → ℕ → ℕ → List ℤ → ℕ → Rows
+abbrev pub loopRows : List ℕ → ℕ → ℕ → List ℤ → ℕ → RowList
 loopRows d long n o t = (badExtents d, 1) ∷ (badLinks d long, 3) ∷ (badSite d n, 4) ∷ (badQuarks o, 11) ∷ (badTime t, 11) ∷ []

@@ -1,19 +1,18 @@
 -- The path step by step, as the code goes: an answer on the way has the product so far.
 use Prim.Native.Nat.{ℕ, _<_}
-use mathlib.Core.Bool.{cond}
 use mathlib.Core.List.{List, [], _∷_}
 use mathlib.Core.Path.{_≡_}
 use lib.Dec.{ltb}
 use lib.Ieee.{Float}
 use Rattle.rows.specs.Rows.{firstRow, ifAccepted}
-use Rattle.mat.specs.Matrix.{identityOf, zeroOf}
+use Rattle.mat.specs.Matrix.{identityOf}
 use Rattle.geometry.specs.Radix.{volume}
 use Rattle.gauge.specs.Field.{linkOf, Holds}
 use Rattle.field_judges.specs.Situations.{badMatrix}
 use Rattle.stairs.specs.declared.Step.{Step}
 use Rattle.paths.specs.Path.{Transporter, stepOf}
 use Rattle.baryon.specs.declared.PathAnswer.{PathAnswer}
-use Rattle.baryon.specs.Situations.{openRows}
+use Rattle.baryon.specs.Situations.{walkRows}
 use Rattle.baryon.specs.Calls.{pathAnswer}
 
 -- what an answer on the way may count on
@@ -25,7 +24,7 @@ abbrev pub transporterOf : PathAnswer → Transporter
 transporterOf w = record { u = w .matrix; site = w .site }
 
 unfoldable pub openedOf : List ℕ → ℕ → ℕ → ℕ → PathAnswer
-openedOf d n long count = pathAnswer (firstRow (openRows d long n count)) (record { u = identityOf; site = n })
+openedOf d n long count = pathAnswer (firstRow (walkRows d long n count)) (record { u = identityOf; site = n })
 
 unfoldable pub steppedOf : List ℕ → List Float → PathAnswer → Step → PathAnswer
 steppedOf d l w s =

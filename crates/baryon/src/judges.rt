@@ -6,7 +6,7 @@ ghost use Rattle.geometry.specs.Radix.{volume};
 ghost use Rattle.geometry.specs.Shape.{Shape};
 ghost use Rattle.stairs.specs.Offsets.{badOffsets, badQuarks};
 ghost use Rattle.stairs.specs.Staircase.{stepsTo};
-ghost use Rattle.baryon.specs.Situations.{stairRows, openRows, lineRows, loopRows};
+ghost use Rattle.baryon.specs.Situations.{stairRows, walkRows, lineRows, loopRows};
 
 // The judges: the first row that holds of a call's inputs, and 0 where none does.
 
@@ -24,7 +24,7 @@ pub fn stair_row(d: [i32; 3], room: usize) -> u32
 
 // A path's rows before its steps are looked at.
 pub fn open_row(d: [usize; 4], long: usize, n: usize, count: usize) -> u32
-    ensures { λ r. ⌜ Judged (openRows d long n count) (Shape d × (long ≡ 72 * volume d) × (n < volume d)) r ⌝ }
+    ensures { λ r. ⌜ Judged (walkRows d long n count) (Shape d × (long ≡ 72 * volume d) × (n < volume d)) r ⌝ }
 {
     let row = field_judges::field_site_row(d, long, n);
     if row != 0 {

@@ -9,8 +9,8 @@ fn skip_some() -> bool {
     io::read_full(STDIN_FILENO, &mut rest) > 0
 }
 
-// A byte too many may come late, and who writes it should not find the input closed. Nothing says that
-// an input ends, and a proved loop has to: no run uses up these turns.
+// Of an input longer than the buffer the rest is read too, so that who writes it does not find it
+// closed. Nothing says that an input ends, and a proved loop has to: no run uses up these turns.
 fn skip_rest() {
     let mut turns = u64::MAX;
     while turns > 0 && skip_some() {

@@ -1,8 +1,8 @@
 -- A quark's line from its three parts, and the loop from its three lines.
 use Prim.Native.Nat.{ℕ}
 use mathlib.Core.List.{List}
-use mathlib.Core.Path.{_≡_, refl, ap, sym, _∙_}
-use lib.Ieee.{Float, binary64, div}
+use mathlib.Core.Path.{_≡_, ap, _∙_}
+use lib.Ieee.{binary64, div}
 use Rattle.complex.specs.declared.C64.{C64}
 use Rattle.mat.specs.declared.Su3.{Su3}
 use Rattle.mat.specs.Product.{mulOf, mulDagOf}

@@ -28,8 +28,8 @@ permutations =
     ∷ []
 
 -- the term of an order of rows p and one of columns q
-abbrev pub termOf : Su3 → Su3 → Su3 → Permutation → Permutation → C64
-termOf a b c p q = cscale (cmul (cmul (at a (p .a) (q .a)) (at b (p .b) (q .b))) (at c (p .c) (q .c))) (p .sign ⊠ q .sign)
+abbrev pub epsilonTerm : Su3 → Su3 → Su3 → Permutation → Permutation → C64
+epsilonTerm a b c p q = cscale (cmul (cmul (at a (p .a) (q .a)) (at b (p .b) (q .b))) (at c (p .c) (q .c))) (p .sign ⊠ q .sign)
 
 -- a sum, and f of each permutation added in turn
 abbrev pub sumOver : (Permutation → C64) → C64 → List Permutation → C64
@@ -43,7 +43,7 @@ sumsOver f s (p ∷ ps) = sumsOver f (sumOver (f p) s permutations) ps
 
 -- 36 terms, from 0
 unfoldable pub epsilonOf : Su3 → Su3 → Su3 → C64
-epsilonOf a b c = sumsOver (termOf a b c) czero permutations
+epsilonOf a b c = sumsOver (epsilonTerm a b c) czero permutations
 
 -- ## by rows, as the code has it
 

@@ -6,8 +6,6 @@ use paths::path;
 use paths::time_line;
 use stairs::Stairs;
 ghost use mathlib.Core.Path.{_≡_};
-ghost use Prim.Native.Nat.{_<_};
-ghost use Rattle.geometry.specs.Radix.{volume};
 ghost use Rattle.geometry.specs.Steps.{spotOf};
 ghost use Rattle.gauge.specs.Field.{linkOf};
 ghost use Rattle.gauge.specs.Polyakov.{laterOf};

@@ -1,20 +1,18 @@
 -- From what the accumulator's calls promise to what a host is promised.
-use Prim.Native.Nat.{ℕ, _≤_, min}
-use mathlib.Core.List.{List, [], _∷_}
-use mathlib.Core.Path.{_≡_, refl, ap, sym, _∙_}
+use Prim.Native.Nat.{ℕ, min}
+use mathlib.Core.List.{List}
+use mathlib.Core.Path.{_≡_, ap, sym, _∙_}
 use native.Mathlib.Omega.{arith}
 use lib.Ieee.{Float, nan}
 use lib.IntN.{ℤ}
-use lib.ListN.{length, getD}
 use Rattle.loops.proofs.Few.{three-are, four-are}
-use Rattle.rows.specs.Rows.{ifAccepted}
 use Rattle.rows.proofs.Laws.{if-refused, if-accepted}
 use Rattle.flux.specs.declared.FluxAccumulator.{FluxAccumulator}
 use Rattle.flux.specs.declared.FluxAnswer.{FluxAnswer}
 use Rattle.rows.specs.declared.ListAnswer.{ListAnswer}
 use Rattle.flux.specs.Sums.{Addition, addedOf}
-use Rattle.flux.specs.Calls.{fluxAnswer, emptyAcc, zeroAcc, newRow, addRow, loopAt, NewCall, AddCall, CorrelationCall}
-use Rattle.export.specs.Accumulators.{accIn, countNumbers, sumNumbers, additionIn, NewGiven, AddGiven, CorrelationGiven, AccumulatorsHandOn}
+use Rattle.flux.specs.Calls.{fluxAnswer, addRow, loopAt, NewCall, AddCall, CorrelationCall}
+use Rattle.export.specs.Accumulators.{accIn, countNumbers, sumNumbers, NewGiven, AddGiven, CorrelationGiven, AccumulatorsHandOn}
 
 pub new-given : {n : List ℕ} {o : List ℤ} {t count : ℕ} {grid after sums : List Float} {counts : List ℕ} {a : FluxAnswer} → NewCall n o t count grid a after
     → counts ≡ countNumbers (a .acc) → sums ≡ sumNumbers (a .acc) → NewGiven n o t count grid (a .refusal) after counts sums

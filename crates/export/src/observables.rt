@@ -1,5 +1,5 @@
-ghost use Rattle.lattice.specs.Answers.{plaquetteCall, stapleCall, loopCall};
-ghost use Rattle.export.specs.Face.{planIn, MatrixGiven, LoopGiven};
+ghost use Rattle.lattice.specs.Answers.{plaquetteCall, stapleCall, polyakovCall};
+ghost use Rattle.export.specs.Face.{planIn, MatrixGiven, PolyakovGiven};
 ghost use Rattle.export.specs.Lists.{AverageGiven, ActionGiven};
 use arrays::matrix_numbers;
 use lattice::Plan;
@@ -77,7 +77,7 @@ pub extern "C" fn jj_action(
 
 #[no_mangle]
 pub extern "C" fn jj_polyakov_loop(ext: &[usize; 4], links: &[f64], out: &mut [f64; 2]) -> u32
-    ensures { λ r. ⌜ LoopGiven (loopCall (now (ext .entry)) (now (links .entry))) r (now (out .exit)) ⌝ }
+    ensures { λ r. ⌜ PolyakovGiven (polyakovCall (now (ext .entry)) (now (links .entry))) r (now (out .exit)) ⌝ }
 {
     let answer = lattice::polyakov_loop(*ext, links);
     *out = [answer.re, answer.im];

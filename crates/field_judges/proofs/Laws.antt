@@ -1,8 +1,8 @@
 -- When a situation holds and when not.
 use Prim.Native.Nat.{ℕ, _*_, _<_, _≤_}
-use mathlib.Core.Bool.{Bool, true, false, _||_, true≢false}
+use mathlib.Core.Bool.{true, false, _||_, true≢false}
 use mathlib.Core.List.{List}
-use mathlib.Core.Path.{_≡_, refl, sym, _∙_}
+use mathlib.Core.Path.{_≡_, sym, _∙_}
 use native.Mathlib.Omega.{arith}
 use lib.Dec.{ltb, eqb}
 use lib.ListN.{length, getD}

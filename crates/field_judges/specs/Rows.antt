@@ -5,45 +5,45 @@ use mathlib.Core.List.{List, [], _∷_}
 use lib.Ieee.{Float}
 use Rattle.field_judges.specs.Situations.{badExtents, badCoupling, badLinks, badSite, badCoords, badDirection, badPlane, badRoom}
 
-abbrev pub Rows : Type 0
-Rows = List (Bool × ℕ)
+abbrev pub RowList : Type 0
+RowList = List (Bool × ℕ)
 
 -- n_sites
-abbrev pub extentsRows : List ℕ → Rows
+abbrev pub extentsRows : List ℕ → RowList
 extentsRows d = (badExtents d, 1) ∷ []
 
 -- coords, parity
-abbrev pub siteRows : List ℕ → ℕ → Rows
+abbrev pub siteRows : List ℕ → ℕ → RowList
 siteRows d n = (badExtents d, 1) ∷ (badSite d n, 4) ∷ []
 
 -- index
-abbrev pub coordsRows : List ℕ → List ℕ → Rows
+abbrev pub coordsRows : List ℕ → List ℕ → RowList
 coordsRows d at = (badExtents d, 1) ∷ (badCoords d at, 4) ∷ []
 
 -- fwd, bwd
-abbrev pub stepRows : List ℕ → ℕ → ℕ → Rows
+abbrev pub stepRows : List ℕ → ℕ → ℕ → RowList
 stepRows d n mu = (badExtents d, 1) ∷ (badSite d n, 4) ∷ (badDirection mu, 5) ∷ []
 
 -- average_plaquette, polyakov_loop
-abbrev pub fieldRows : List ℕ → ℕ → Rows
+abbrev pub fieldRows : List ℕ → ℕ → RowList
 fieldRows d long = (badExtents d, 1) ∷ (badLinks d long, 3) ∷ []
 
 -- field_strength_at
-abbrev pub fieldSiteRows : List ℕ → ℕ → ℕ → Rows
+abbrev pub fieldSiteRows : List ℕ → ℕ → ℕ → RowList
 fieldSiteRows d long n = (badExtents d, 1) ∷ (badLinks d long, 3) ∷ (badSite d n, 4) ∷ []
 
 -- cold, action
-abbrev pub planRows : List ℕ → Float → ℕ → Rows
+abbrev pub planRows : List ℕ → Float → ℕ → RowList
 planRows d c long = (badExtents d, 1) ∷ (badCoupling c, 2) ∷ (badLinks d long, 3) ∷ []
 
 -- plaquette, clover_leaves
-abbrev pub planeRows : List ℕ → ℕ → ℕ → ℕ → ℕ → Rows
+abbrev pub planeRows : List ℕ → ℕ → ℕ → ℕ → ℕ → RowList
 planeRows d long n mu nu = (badExtents d, 1) ∷ (badLinks d long, 3) ∷ (badSite d n, 4) ∷ (badPlane mu nu, 5) ∷ []
 
 -- staple, overrelax_link
-abbrev pub linkRows : List ℕ → Float → ℕ → ℕ → ℕ → Rows
+abbrev pub linkRows : List ℕ → Float → ℕ → ℕ → ℕ → RowList
 linkRows d c long n mu = (badExtents d, 1) ∷ (badCoupling c, 2) ∷ (badLinks d long, 3) ∷ (badSite d n, 4) ∷ (badDirection mu, 5) ∷ []
 
 -- link_check
-abbrev pub checkRows : List ℕ → ℕ → ℕ → Rows
+abbrev pub checkRows : List ℕ → ℕ → ℕ → RowList
 checkRows d long room = (badExtents d, 1) ∷ (badLinks d long, 3) ∷ (badRoom d room, 12) ∷ []

@@ -11,7 +11,6 @@ use Rattle.mat.specs.declared.Su3.{Su3}
 use Rattle.geometry.specs.Radix.{volume}
 use Rattle.strength.specs.declared.Density.{Density}
 use Rattle.strength.specs.Densities.{InSpace}
-use Rattle.rows.specs.Finite.{finiteNumbers, badNumbers}
 use Rattle.fields.specs.Situations.{badDensityList, badAxis, finiteSix, badSix}
 use Rattle.fields.specs.Calls.{Filled, sixZeros, strengthAnswer}
 

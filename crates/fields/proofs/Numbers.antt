@@ -1,8 +1,8 @@
 -- The lists that the calls fill, place by place, and when all their numbers are finite.
 use Prim.Native.Nat.{ℕ, _+_, _*_, _/_, _%_, _<_, _≤_}
-use mathlib.Core.Bool.{Bool, true, false, cond, and-eq-true-iff}
-use mathlib.Core.List.{List, map}
-use mathlib.Core.Path.{_≡_, refl, ap, sym, _∙_}
+use mathlib.Core.Bool.{Bool, true, cond, and-eq-true-iff}
+use mathlib.Core.List.{List}
+use mathlib.Core.Path.{_≡_, ap, sym, _∙_}
 use native.Mathlib.Decide.{ℕ-discrete}
 use native.Mathlib.Nat.{div-lt-iff-lt-mul, mod-lt, add-zero, mul-add-div-right, mul-add-mod-self-right, mod-eq-of-lt, div-eq-of-lt}
 use native.Mathlib.Omega.{arith}
@@ -10,16 +10,13 @@ use lib.Dec.{eqb}
 use lib.Ieee.{Float, nan}
 use lib.Ieee.Scale.{finite}
 use lib.ListN.{length, getD}
-use lib.Seq.{ext-getD}
 use borrow.Author.Tests.{eq-eqb, ne-eqb}
-use Rattle.loops.specs.Loops.{fill, allBelow}
-use Rattle.loops.proofs.Laws.{length-fill, fill-at, all-each, each-all}
+use Rattle.loops.specs.Loops.{allBelow}
+use Rattle.loops.proofs.Laws.{all-each, each-all}
 use Rattle.mat.specs.declared.Su3.{Su3}
 use Rattle.complex.specs.Complex.{finiteEntry}
 use Rattle.mat.specs.Matrix.{ent, finiteMatrix}
-use Rattle.geometry.specs.Range.{range}
 use Rattle.geometry.specs.Radix.{volume}
-use Rattle.geometry.proofs.Range.{length-listed, listed-at}
 use Rattle.links.specs.Field.{Field}
 use Rattle.links.specs.Store.{matrixAt, withMatrix}
 use Rattle.links.proofs.Laws.{link-same, link-other, number-below}

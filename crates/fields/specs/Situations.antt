@@ -1,5 +1,5 @@
--- The situations that these calls add to the lattice's, and the rows of those calls whose rows the lattice does not have, in the order in which they are tried;
--- row 10 comes after them. The rows of `clover_leaves` and `field_strength_at` are the lattice's `planeRows` and `fieldSiteRows`.
+-- The situations that these calls add to those of `field_judges`, and the rows of those calls whose rows it does not have, in the order in which they are tried;
+-- row 10 comes after them. The rows of `clover_leaves` and `field_strength_at` are its `planeRows` and `fieldSiteRows`.
 use Prim.Native.Nat.{ℕ}
 use mathlib.Core.Bool.{Bool, false, not}
 use mathlib.Core.List.{List, [], _∷_}
@@ -9,7 +9,7 @@ use Rattle.mat.specs.declared.Su3.{Su3}
 use Rattle.mat.specs.Matrix.{finiteMatrix, nthMatrix}
 use Rattle.geometry.specs.Radix.{volume}
 use Rattle.strength.specs.declared.Density.{Density}
-use Rattle.field_judges.specs.Rows.{Rows}
+use Rattle.field_judges.specs.Rows.{RowList}
 use Rattle.field_judges.specs.Situations.{badExtents, badLinks, badSite, badDirection}
 
 -- ## Situations
@@ -34,13 +34,13 @@ badSix f = not (finiteSix f)
 -- ## Rows: d are extents, long the number of link numbers
 
 -- stout_link
-abbrev pub stoutRows : List ℕ → ℕ → ℕ → ℕ → Rows
+abbrev pub stoutRows : List ℕ → ℕ → ℕ → ℕ → RowList
 stoutRows d long n mu = (badExtents d, 1) ∷ (badLinks d long, 3) ∷ (badSite d n, 4) ∷ (badDirection mu, 5) ∷ []
 
 -- stout_step; second is the length of the list to be filled
-abbrev pub smearRows : List ℕ → ℕ → ℕ → Rows
+abbrev pub smearRows : List ℕ → ℕ → ℕ → RowList
 smearRows d long second = (badExtents d, 1) ∷ (badLinks d long, 3) ∷ (badLinks d second, 3) ∷ []
 
 -- action_density, topological_charge_density, electric_sq
-abbrev pub densityRows : List ℕ → ℕ → ℕ → Density → Rows
+abbrev pub densityRows : List ℕ → ℕ → ℕ → Density → RowList
 densityRows d long second kind = (badExtents d, 1) ∷ (badLinks d long, 3) ∷ (badDensityList d second, 3) ∷ (badAxis kind, 5) ∷ []

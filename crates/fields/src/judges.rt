@@ -8,7 +8,7 @@ ghost use Rattle.strength.specs.Densities.{InSpace};
 ghost use Rattle.fields.specs.Situations.{badAxis, stoutRows, smearRows, densityRows};
 
 // The judges: the first row that holds of a call's inputs, and 0 where none does. Each begins
-// with one of the lattice's.
+// with one of `field_judges`.
 
 pub fn stout_row(d: [usize; 4], long: usize, n: usize, mu: usize) -> u32
     ensures { λ r. ⌜ Judged (stoutRows d long n mu) (Shape d × (long ≡ 72 * volume d) × (n < volume d) × (mu < 4)) r ⌝ }

@@ -1,8 +1,7 @@
 -- What the cabinet finds on a cold field, and what it prints.
 use Prim.Native.Nat.{ℕ}
-use mathlib.Core.Bool.{true}
 use mathlib.Core.List.{List, [], _∷_}
-use mathlib.Core.Path.{_≡_, refl, sym, _∙_}
+use mathlib.Core.Path.{_≡_, refl}
 use native.Mathlib.Omega.{arith}
 use lib.Ieee.{toBits, ofBits, ofFields}
 use Rattle.loops.specs.Loops.{allBelow}

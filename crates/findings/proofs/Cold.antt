@@ -2,7 +2,7 @@
 use Prim.Native.Nat.{ℕ, zero, suc, _<_}
 use mathlib.Core.Bool.{Bool, true, false, cond}
 use mathlib.Core.List.{List, [], _∷_}
-use mathlib.Core.Path.{_≡_, refl, ap, sym, _∙_}
+use mathlib.Core.Path.{_≡_, refl, ap, _∙_}
 use native.Mathlib.Omega.{arith}
 use lib.Ieee.{Float, binary64, add, sub, mul, div, neg, lt, ofInt, ofBits, round, sum, units, odd, size, climb, span, ofFields}
 use lib.Dec.{ltb}

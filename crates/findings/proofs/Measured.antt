@@ -1,11 +1,10 @@
 -- What the calls answer on a small cold field: each is accepted, and gives the definition's number.
 use Prim.Native.Nat.{ℕ, _*_}
 use mathlib.Core.List.{List}
-use mathlib.Core.Path.{_≡_, refl, sym, _∙_}
+use mathlib.Core.Path.{_≡_, refl, _∙_}
 use lib.Ieee.{Float}
 use lib.ListN.{length}
 use Rattle.rows.specs.declared.Number.{Number}
-use Rattle.rows.specs.Rows.{ifAccepted}
 use Rattle.rows.specs.Answers.{numberValue, IsNumber}
 use Rattle.rows.proofs.Laws.{if-accepted}
 use Rattle.geometry.specs.Radix.{volume}
@@ -13,12 +12,11 @@ use Rattle.gauge.specs.Plaquette.{fsix, averageOf, actionOf}
 use Rattle.gauge.specs.Polyakov.{polyakovOf}
 use Rattle.lattice.specs.declared.Plan.{Plan}
 use Rattle.lattice.specs.declared.ColdAnswer.{ColdAnswer}
-use Rattle.lattice.specs.declared.LoopAnswer.{LoopAnswer}
+use Rattle.lattice.specs.declared.PolyakovAnswer.{PolyakovAnswer}
 use Rattle.lattice.specs.Cold.{coldLinks, coldAnswer, ColdCall}
-use Rattle.lattice.specs.Answers.{AverageCall, ActionCall, loopAnswer, loopCall}
+use Rattle.lattice.specs.Answers.{AverageCall, ActionCall, polyakovAnswer, polyakovCall}
 use Rattle.contraction.specs.Baryon.{baryonOf}
 use Rattle.baryon.specs.Calls.{BaryonCall}
-use Rattle.findings.specs.declared.Findings.{Findings}
 use Rattle.findings.specs.declared.Frames.{Frames}
 use Rattle.findings.specs.Findings.{Small, quarks, coldPlan, coldField, framesOf, findingsOf}
 use Rattle.findings.proofs.Passes.{cold-passes, average-passes, action-passes, loop-passes, baryon-passes}
@@ -40,8 +38,8 @@ module _ (d : List ℕ) (small : Small d) where
     pub action-found : {r : Number} {x : Float} → ActionCall plan links r → x ≡ numberValue r → x ≡ actionOf d (coldField d) fsix
     action-found call e = e ∙ accepted-value (action-passes d small) (rw (begun .0, begun .1) at call)
 
-    pub loop-found : {r : LoopAnswer} → r ≡ loopCall d links → (r .re ≡ polyakovOf d (coldField d) .re) × (r .im ≡ polyakovOf d (coldField d) .im)
-    unfolding loopCall loopAnswer
+    pub loop-found : {r : PolyakovAnswer} → r ≡ polyakovCall d links → (r .re ≡ polyakovOf d (coldField d) .re) × (r .im ≡ polyakovOf d (coldField d) .im)
+    unfolding polyakovCall polyakovAnswer
     loop-found e = let none = loop-passes d small in (rw (e, begun .1, none, if-accepted _ _ refl), rw (e, begun .1, none, if-accepted _ _ refl))
 
     pub baryon-found : {r : Number} {x : Float} → BaryonCall d 0 quarks 2 links r → x ≡ numberValue r → x ≡ baryonOf d (coldField d) 2 quarks 0

@@ -1,7 +1,7 @@
 -- No row refuses what is measured on a small cold field.
-use Prim.Native.Nat.{ℕ, _*_, _<_}
+use Prim.Native.Nat.{ℕ, _*_}
 use mathlib.Core.Bool.{Bool, false}
-use mathlib.Core.List.{List, [], _∷_}
+use mathlib.Core.List.{List, []}
 use mathlib.Core.Path.{_≡_, refl, _∙_}
 use native.Mathlib.Omega.{arith}
 use lib.Ieee.{Float, lt, ofBits, ofFields}
@@ -14,7 +14,7 @@ use Rattle.geometry.specs.Radix.{volume}
 use Rattle.geometry.proofs.Shape.{shape-fits, volume-pos}
 use Rattle.gauge.specs.Plaquette.{fsix}
 use Rattle.gauge.specs.Polyakov.{polyakovOf}
-use Rattle.field_judges.specs.Situations.{badExtents, badCoupling, badLinks, badSite, badDirection, badNumber, badPair}
+use Rattle.field_judges.specs.Situations.{badExtents, badCoupling, badLinks, badDirection, badNumber, badPair}
 use Rattle.field_judges.specs.Rows.{fieldRows}
 use Rattle.lattice.specs.Cold.{coldLinks, coldRow}
 use Rattle.lattice.specs.Answers.{averageRow, actionRow}

@@ -1,12 +1,11 @@
 -- A field with at most 64 sites has 16, 32, 48 or 64 of them, and 8, 16, 24 or 32 places of space.
-use Prim.Native.Nat.{ℕ, zero, suc, _+_, _*_, _/_, _<_, _≤_}
+use Prim.Native.Nat.{ℕ, zero, suc, _*_, _/_, _<_, _≤_}
 use mathlib.Core.List.{List, [], _∷_}
 use mathlib.Core.Path.{_≡_, refl, sym, subst, _∙_}
 use native.Mathlib.Nat.{mul-assoc, mul-left-comm, mul-pos, mul-le-mul, le-refl}
 use native.Mathlib.Omega.{arith}
 use lib.ListN.{length, getD}
 use Rattle.geometry.specs.Radix.{volume}
-use Rattle.geometry.specs.Shape.{Shape}
 use Rattle.gauge.specs.Polyakov.{space}
 use Rattle.gauge.proofs.TimeLine.{places-are}
 use Rattle.findings.specs.Findings.{Small}

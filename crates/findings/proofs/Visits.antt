@@ -1,10 +1,10 @@
 -- The half-sweep of a cold field in frames: what is visited, and that no link is stuck.
-use Prim.Native.Nat.{ℕ, zero, suc, _+_, _*_, _/_, _<_, min}
-use mathlib.Core.Bool.{Bool, true, false, Bool-discrete, true≢false}
+use Prim.Native.Nat.{ℕ, _+_, _*_, _/_, _<_, min}
+use mathlib.Core.Bool.{true, false, Bool-discrete, true≢false}
 use mathlib.Core.List.{List, [], _∷_, map, List·Mem, mem-cons-self, mem-append-left, mem-filter}
 use mathlib.Core.Path.{_≡_, refl, ap, subst, sym, _∙_}
 use native.Mathlib.Omega.{arith}
-use lib.Ieee.{Float, add, sub, mul, div, neg, lt, ofInt, ofBits, round, sum, units, odd, size, climb, span, ofFields}
+use lib.Ieee.{add, sub, mul, div, neg, lt, ofInt, ofBits, round, sum, units, odd, size, climb, span, ofFields}
 use lib.ListN.{length, drop, take-append-drop}
 use Rattle.rows.specs.Rows.{ifAccepted}
 use Rattle.loops.specs.Loops.{foldTo, allBelow}
@@ -26,7 +26,7 @@ use Rattle.update.specs.declared.Updated.{Updated}
 use Rattle.update.specs.Update.{isStuck, quatOver, reflectionOf, isShort, shortNorm, ifFinite, throughSubgroups, updateLinkOf, updateOf}
 use Rattle.update.proofs.UpdateLaws.{update-is-local}
 use Rattle.visits.specs.Visits.{stuckAmong, stuckSites, overrelax}
-use Rattle.sweep.specs.RunOfFrames.{Frame, lent, Between, answerOf, acceptedSum, Answered, opened}
+use Rattle.sweep.specs.RunOfFrames.{lent, Between, acceptedSum, Answered, opened}
 use Rattle.sweep.proofs.RunOfFrames.{frames-are-visits}
 use Rattle.lattice.specs.Cold.{coldLinks}
 use Rattle.lattice.proofs.Frozen.{every-link-is-identity}

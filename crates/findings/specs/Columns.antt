@@ -8,7 +8,7 @@ use lib.Ieee.Scale.{finite}
 use lib.ListN.{length, drop}
 use Rattle.rows.specs.Rows.{firstRow, ifAccepted}
 use Rattle.geometry.specs.Radix.{volume}
-use Rattle.field_judges.specs.Rows.{Rows}
+use Rattle.field_judges.specs.Rows.{RowList}
 use Rattle.field_judges.specs.Situations.{badExtents}
 use Rattle.ascii.specs.Lines.{ascii, decimalText, numberText, textLine}
 use Rattle.findings.specs.declared.Findings.{Findings}
@@ -23,7 +23,7 @@ badInput bytes = not (eqb (length bytes) 4)
 unfoldable pub badSites : List ℕ → Bool
 badSites d = ltb 64 (volume d)
 
-abbrev pub inputRows : List ℕ → Rows
+abbrev pub inputRows : List ℕ → RowList
 inputRows bytes = (badInput bytes, 15) ∷ (badExtents bytes, 1) ∷ (badSites bytes, 15) ∷ []
 
 -- the columns: name and finding

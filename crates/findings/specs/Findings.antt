@@ -1,10 +1,8 @@
 -- What the cabinet finds on the cold field of extents d with coupling 6.
-use Prim.Native.Nat.{ℕ, _*_, _≤_}
+use Prim.Native.Nat.{ℕ, _≤_}
 use mathlib.Core.List.{List, [], _∷_}
-use mathlib.Core.Path.{_≡_}
 use lib.Ieee.{Float}
 use lib.IntN.{ℤ, pos}
-use lib.ListN.{length}
 use Rattle.geometry.specs.Radix.{volume}
 use Rattle.geometry.specs.Shape.{Shape}
 use Rattle.links.specs.Field.{Field}

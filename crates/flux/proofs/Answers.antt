@@ -18,7 +18,7 @@ use Rattle.flux.specs.declared.FluxAccumulator.{FluxAccumulator}
 use Rattle.flux.specs.declared.FluxAnswer.{FluxAnswer}
 use Rattle.flux.specs.Means.{meansOf, correlationAt, correlationList}
 use Rattle.flux.specs.Sums.{Addition, addedGrid, addedOf}
-use Rattle.flux.specs.Calls.{fluxAnswer, emptyAcc, zeroAcc, newRow, NewCall, openRow, addRow, Added, correlationRow, CorrelationCall}
+use Rattle.flux.specs.Calls.{fluxAnswer, emptyAcc, zeroAcc, newRow, NewCall, inputsRow, addRow, Added, correlationRow, CorrelationCall}
 use Rattle.flux.specs.Parts.{Finished}
 
 -- ## one part of an answer
@@ -43,7 +43,7 @@ module _ (n : List ℕ) (o : List ℤ) (t count : ℕ) (grid : List Float) where
 
 -- ## add
 
-module _ (W : ℕ → Float) (x : Addition) {row : ℕ} (same : row ≡ openRow x) where
+module _ (W : ℕ → Float) (x : Addition) {row : ℕ} (same : row ≡ inputsRow x) where
   pub added-refused : (row ≡ 0 → ⊥) → Added W x (record { refusal = row; acc = x .acc }) (x .grid) (x .scratch)
   unfolding addRow
   added-refused ne =

@@ -13,7 +13,7 @@ use Rattle.rows.proofs.Laws.{if-refused, if-accepted, finally-refused, finally-
 use Rattle.flux.specs.declared.FluxAnswer.{FluxAnswer}
 use Rattle.sums.specs.Ending.{badSums, zerosLike}
 use Rattle.flux.specs.Sums.{Addition, withSums, addedGrid, addedOf}
-use Rattle.flux.specs.Calls.{fluxAnswer, openRow, addRow, Added}
+use Rattle.flux.specs.Calls.{fluxAnswer, inputsRow, addRow, Added}
 use Rattle.flux.specs.Claims.{RefusedStoresNothing, RowTenClears, AcceptedClears, SamplesGrow}
 
 -- ## a number that none of the rows has
@@ -45,7 +45,7 @@ grown x W top = (omega arith, omega arith)
 
 module _ (W : ℕ → Float) (x : Addition) (r : FluxAnswer) (grid scratch : List Float) where
   -- no row before the sums are worked out has the number 10
-  open-not-ten : openRow x ≡ 10 → ⊥
+  open-not-ten : inputsRow x ≡ 10 → ⊥
   open-not-ten = never 10 _ refl
 
   answered : Added W x r grid scratch → r .refusal ≡ addRow W x
@@ -57,11 +57,11 @@ module _ (W : ℕ → Float) (x : Addition) (r : FluxAnswer) (grid scratch : Lis
   held a = ap (λ (f : FluxAnswer). f .acc) (a .answer)
 
   -- the rows that are tried first, and row 10 where none of them holds
-  refused-first : (openRow x ≡ 0 → ⊥) → addRow W x ≡ openRow x
+  refused-first : (inputsRow x ≡ 0 → ⊥) → addRow W x ≡ inputsRow x
   unfolding addRow
-  refused-first ne = finally-refused (openRow x) _ ne
+  refused-first ne = finally-refused (inputsRow x) _ ne
 
-  tested-last : openRow x ≡ 0 → addRow W x ≡ firstRow ((badSums (addedGrid W x) (addedOf W x .w) (addedOf W x .s), 10) ∷ [])
+  tested-last : inputsRow x ≡ 0 → addRow W x ≡ firstRow ((badSums (addedGrid W x) (addedOf W x .w) (addedOf W x .s), 10) ∷ [])
   unfolding addRow
   tested-last e = finally-accepted _ e
 
@@ -69,23 +69,23 @@ module _ (W : ℕ → Float) (x : Addition) (r : FluxAnswer) (grid scratch : Lis
   nothing-stored a ne = (held a ∙ if-refused _ _ _ ne, a .list ∙ if-refused _ _ _ ne)
 
   pub refused-stores-nothing : RefusedStoresNothing W x r grid scratch
-  refused-stores-nothing a accepted ten = go (ℕ-discrete (openRow x) 0)
+  refused-stores-nothing a accepted ten = go (ℕ-discrete (inputsRow x) 0)
     where
-      go : Dec (openRow x ≡ 0) → (r .acc ≡ x .acc) × (grid ≡ x .grid) × (scratch ≡ x .scratch)
+      go : Dec (inputsRow x ≡ 0) → (r .acc ≡ x .acc) × (grid ≡ x .grid) × (scratch ≡ x .scratch)
       go (yes e) = absurd (last-row-number _ (λ h. accepted (answered a ∙ tested-last e ∙ h)) (λ h. ten (answered a ∙ tested-last e ∙ h)))
       go (no ne) = let kept = nothing-stored a (λ h. accepted (answered a ∙ h)) in (kept .0, kept .1, a .cleared ∙ if-refused _ _ _ ne)
 
   pub row-ten-clears : RowTenClears W x r grid scratch
-  row-ten-clears a ten = go (ℕ-discrete (openRow x) 0)
+  row-ten-clears a ten = go (ℕ-discrete (inputsRow x) 0)
     where
-      go : Dec (openRow x ≡ 0) → (r .acc ≡ x .acc) × (grid ≡ x .grid) × (scratch ≡ zerosLike (x .scratch))
+      go : Dec (inputsRow x ≡ 0) → (r .acc ≡ x .acc) × (grid ≡ x .grid) × (scratch ≡ zerosLike (x .scratch))
       go (yes e) = let kept = nothing-stored a (λ h. let n = sym ten ∙ answered a ∙ h in omega arith) in (kept .0, kept .1, a .cleared ∙ if-accepted _ _ e)
       go (no ne) = absurd (open-not-ten (sym (refused-first ne) ∙ sym (answered a) ∙ ten))
 
   pub accepted-clears : AcceptedClears W x r grid scratch
-  accepted-clears a accepted = go (ℕ-discrete (openRow x) 0)
+  accepted-clears a accepted = go (ℕ-discrete (inputsRow x) 0)
     where
-      go : Dec (openRow x ≡ 0) → scratch ≡ zerosLike (x .scratch)
+      go : Dec (inputsRow x ≡ 0) → scratch ≡ zerosLike (x .scratch)
       go (yes e) = a .cleared ∙ if-accepted _ _ e
       go (no ne) = absurd (ne (sym (refused-first ne) ∙ sym (answered a) ∙ accepted))
 

@@ -1,8 +1,8 @@
 -- A grid's extents and its cells.
 use Prim.Native.Nat.{ℕ, _+_, _*_, _<_, _≤_}
 use mathlib.Core.Bool.{true, false}
-use mathlib.Core.List.{List, [], _∷_}
-use mathlib.Core.Path.{_≡_, refl, sym, _∙_}
+use mathlib.Core.List.{List}
+use mathlib.Core.Path.{_≡_, sym, _∙_}
 use native.Mathlib.Nat.{mul-le-mul, mul-one}
 use native.Mathlib.Omega.{arith}
 use lib.Dec.{eqb}

@@ -43,19 +43,19 @@ pub record NewCall (n : List ℕ) (o : List ℤ) (t count : ℕ) (grid : List Fl
 -- ## add
 
 -- the rows before the sums are worked out
-abbrev pub openRow : Addition → ℕ
-openRow x = firstRow (addRows (x .acc) (x .extents) (x .count) (length (x .links)) (length (x .densities)) (length (x .grid)) (length (x .scratch)))
+abbrev pub inputsRow : Addition → ℕ
+inputsRow x = firstRow (addRows (x .acc) (x .extents) (x .count) (length (x .links)) (length (x .densities)) (length (x .grid)) (length (x .scratch)))
 
 -- for any loop value W at each site
 module _ (W : ℕ → Float) (x : Addition) where
   unfoldable pub addRow : ℕ
-  addRow = finally (openRow x) (badSums (addedGrid W x) (addedOf W x .w) (addedOf W x .s), 10)
+  addRow = finally (inputsRow x) (badSums (addedGrid W x) (addedOf W x .w) (addedOf W x .s), 10)
 
   -- the scratch is +0 where the sums were worked out, whether row 10 refuses them or not
   pub record Added (r : FluxAnswer) (gridAfter scratchAfter : List Float) : Type 0 where
     pub answer : r ≡ fluxAnswer addRow (addedOf W x) (x .acc)
     pub list : gridAfter ≡ ifAccepted addRow (addedGrid W x) (x .grid)
-    pub cleared : scratchAfter ≡ ifAccepted (openRow x) (zerosLike (x .scratch)) (x .scratch)
+    pub cleared : scratchAfter ≡ ifAccepted (inputsRow x) (zerosLike (x .scratch)) (x .scratch)
 
 -- the loop of three quarks at each site, as the accumulator has their offsets and the time length
 unfoldable pub loopAt : Addition → ℕ → Float

@@ -8,7 +8,7 @@ use lib.ListN.{length, getD, drop}
 use Rattle.geometry.specs.Radix.{volume}
 use Rattle.geometry.specs.Shape.{Extent, Shape}
 use Rattle.rows.specs.Rows.{ifAccepted}
-use Rattle.field_judges.specs.Rows.{Rows}
+use Rattle.field_judges.specs.Rows.{RowList}
 use Rattle.field_judges.specs.Situations.{badExtents, badLinks}
 use Rattle.stairs.specs.Offsets.{badQuarks, badTime}
 use Rattle.slices.specs.Slices.{places}
@@ -22,7 +22,7 @@ use Rattle.flux.specs.Calls.{fluxAnswer}
 -- ## Rows that calls have in common, and what holds where they pass
 
 -- a grid's extents
-abbrev pub gridRows : List ℕ → Rows
+abbrev pub gridRows : List ℕ → RowList
 gridRows n = (badGrid n, 1) ∷ []
 
 pub record Grid (n : List ℕ) : Type 0 where
@@ -30,11 +30,11 @@ pub record Grid (n : List ℕ) : Type 0 where
   pub each : (a : ℕ) → a < 3 → Extent (getD n a 0)
 
 -- offsets, time length and count of densities
-abbrev pub ownRows : List ℤ → ℕ → ℕ → Rows
+abbrev pub ownRows : List ℤ → ℕ → ℕ → RowList
 ownRows o t count = (badQuarks o, 11) ∷ (badTime t, 11) ∷ (badCount count, 13) ∷ []
 
 -- both extents of an addition, and the lengths of its lists
-abbrev pub sizeRows : List ℕ → List ℕ → ℕ → ℕ → ℕ → ℕ → ℕ → Rows
+abbrev pub sizeRows : List ℕ → List ℕ → ℕ → ℕ → ℕ → ℕ → ℕ → RowList
 sizeRows d n count links densities grid scratch =
     (badExtents d, 1)
     ∷ (badGrid n, 1)

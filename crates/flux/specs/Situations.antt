@@ -1,4 +1,4 @@
--- The situations that these calls add to the lattice's and the staircases', and each call's rows in the order in which they are tried; row 10 comes after them.
+-- The situations that these calls add to those of `field_judges` and `stairs`, and each call's rows in the order in which they are tried; row 10 comes after them.
 use Prim.Native.Nat.{ℕ, _+_, _*_}
 use mathlib.Core.Bool.{Bool, not, _||_}
 use mathlib.Core.List.{List, [], _∷_}
@@ -10,7 +10,7 @@ use Rattle.loops.specs.Loops.{allBelow}
 use Rattle.complex.specs.Rounded.{fzero}
 use Rattle.geometry.specs.Radix.{volume}
 use Rattle.geometry.specs.Shape.{extentTest}
-use Rattle.field_judges.specs.Rows.{Rows}
+use Rattle.field_judges.specs.Rows.{RowList}
 use Rattle.field_judges.specs.Situations.{badExtents, badLinks}
 use Rattle.stairs.specs.Offsets.{badQuarks, badTime}
 use Rattle.flux.specs.declared.FluxAccumulator.{FluxAccumulator}
@@ -65,11 +65,11 @@ noMeans acc k = eq (meansOf acc k) fzero
 -- ## Rows
 
 -- new; o are the three offsets, t the time length, long the length of the grid's list
-abbrev pub newRows : List ℕ → List ℤ → ℕ → ℕ → ℕ → Rows
+abbrev pub newRows : List ℕ → List ℤ → ℕ → ℕ → ℕ → RowList
 newRows n o t count long = (badGrid n, 1) ∷ (badGridList n count long, 3) ∷ (badQuarks o, 11) ∷ (badTime t, 11) ∷ (badCount count, 13) ∷ []
 
 -- mean_loop
-abbrev pub meanRows : FluxAccumulator → Rows
+abbrev pub meanRows : FluxAccumulator → RowList
 meanRows acc =
     (badGrid (acc .n), 1)
     ∷ (badQuarks (acc .offsets), 11)
@@ -79,7 +79,7 @@ meanRows acc =
     ∷ []
 
 -- correlation, by the lengths of the grid's list and of the list to be filled
-abbrev pub correlationRows : FluxAccumulator → ℕ → ℕ → ℕ → Rows
+abbrev pub correlationRows : FluxAccumulator → ℕ → ℕ → ℕ → RowList
 correlationRows acc k grid out =
     (badGrid (acc .n), 1)
     ∷ (badGridList (acc .n) (acc .count) grid, 3)
@@ -93,7 +93,7 @@ correlationRows acc k grid out =
     ∷ []
 
 -- add, by the lengths of the lists of links, densities, grid and scratch
-abbrev pub addRows : FluxAccumulator → List ℕ → ℕ → ℕ → ℕ → ℕ → ℕ → Rows
+abbrev pub addRows : FluxAccumulator → List ℕ → ℕ → ℕ → ℕ → ℕ → ℕ → RowList
 addRows acc d count links densities grid scratch =
     (badExtents d, 1)
     ∷ (badGrid (acc .n), 1)

@@ -4,7 +4,6 @@ use crate::judges::mean_row;
 use rows::ListAnswer;
 use rows::Number;
 use sums::mean;
-ghost use mathlib.Core.Path.{_≡_};
 ghost use Rattle.flux.specs.Calls.{MeanCall, CorrelationCall};
 
 impl FluxAccumulator {

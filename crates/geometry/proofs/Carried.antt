@@ -1,14 +1,14 @@
 -- Steps from a spot: the site by its stride, the coordinates by theirs.
 use Prim.Native.Nat.{ℕ, suc, _+_, _-_, _%_, _<_}
 use mathlib.Core.List.{List}
-use mathlib.Core.Path.{_≡_, refl, ap, sym, _∙_}
+use mathlib.Core.Path.{_≡_, ap, sym}
 use native.Mathlib.Numerals.{add-one}
 use native.Mathlib.Omega.{arith}
 use lib.ListN.{getD, set}
 use Rattle.geometry.specs.declared.Spot.{Spot}
-use Rattle.geometry.specs.Radix.{volume, coordsOf}
+use Rattle.geometry.specs.Radix.{coordsOf}
 use Rattle.geometry.specs.Steps.{movedOf, fwdOf, bwdOf, spotOf}
-use Rattle.geometry.specs.Stride.{strideOf, stridesOf, upOf, downOf, Step, Standing}
+use Rattle.geometry.specs.Stride.{strideOf, upOf, downOf, StepBounds, Standing}
 use Rattle.geometry.proofs.Shape.{axis-in, volume-pos}
 use Rattle.geometry.proofs.Steps.{coord-below, moved-coords}
 use Rattle.geometry.proofs.Stride.{stride-of, step-fits, step-up, step-down}
@@ -24,7 +24,7 @@ module _ (d s : List ℕ) (p : Spot) (mu : ℕ) (h : Standing d s p mu) where
   next : getD s (mu + 1) 0 ≡ strideOf d (suc mu)
   next = let l = h .axis in rw (h .strides, ← (add-one mu)) (stride-of d (mu + 1) (omega arith))
 
-  pub spot-step-fits : Step (p .site) (getD (p .at) mu 0) (getD d mu 0) (getD s mu 0) (getD s (mu + 1) 0)
+  pub spot-step-fits : StepBounds (p .site) (getD (p .at) mu 0) (getD d mu 0) (getD s mu 0) (getD s (mu + 1) 0)
   spot-step-fits = rw (at-coords, here, next) (step-fits d (h .shape) (p .site) mu (h .below) (h .axis))
 
   pub spot-coord : (getD (p .at) mu 0 < getD d mu 0) × (getD d mu 0 < 65536)

@@ -9,7 +9,7 @@ use native.Mathlib.Omega.{arith}
 use lib.Dec.{ltb}
 use lib.ListN.{length, getD, set, replicate}
 use borrow.Author.Tests.{lt-ltb, le-ltb}
-use Rattle.geometry.specs.Radix.{volume, coordsOf, indexOf, nextOf, Within}
+use Rattle.geometry.specs.Radix.{volume, coordsOf, indexOf, nextCoords, Within}
 
 -- ## extents above 0
 
@@ -72,8 +72,8 @@ index-coords (e ∷ d) n h =
 
 -- ## the next site
 
-pub next-coords : (d : List ℕ) (n : ℕ) → 0 < volume d → nextOf d (coordsOf d n) ≡ coordsOf d (n + 1)
-unfolding nextOf coordsOf volume
+pub next-coords : (d : List ℕ) (n : ℕ) → 0 < volume d → nextCoords d (coordsOf d n) ≡ coordsOf d (n + 1)
+unfolding nextCoords coordsOf volume
 next-coords [] n h = refl
 next-coords (e ∷ d) n h = go (next-coords d (n / e) (right-pos e (volume d) h)) (decLt (n % e + 1) e)
   where
@@ -83,7 +83,7 @@ next-coords (e ∷ d) n h = go (next-coords d (n / e) (right-pos e (volume d) h)
     split : n ≡ n % e + e * (n / e)
     split = sym (mod-add-div n e)
 
-    go : nextOf d (coordsOf d (n / e)) ≡ coordsOf d (n / e + 1) → Dec (n % e + 1 < e) → cond (ltb (n % e + 1) e) ((n % e + 1) ∷ coordsOf d (n / e)) (0 ∷ nextOf d (coordsOf d (n / e))) ≡ (n + 1) % e ∷ coordsOf d ((n + 1) / e)
+    go : nextCoords d (coordsOf d (n / e)) ≡ coordsOf d (n / e + 1) → Dec (n % e + 1 < e) → cond (ltb (n % e + 1) e) ((n % e + 1) ∷ coordsOf d (n / e)) (0 ∷ nextCoords d (coordsOf d (n / e))) ≡ (n + 1) % e ∷ coordsOf d ((n + 1) / e)
     go ih (yes g) =
         let next : n + 1 ≡ (n % e + 1) + e * (n / e) = omega (arith, split) in
         let m : (n + 1) % e ≡ n % e + 1 = ap (λ (x : ℕ). x % e) next ∙ add-mul-mod-self-left (n % e + 1) e (n / e) ∙ mod-eq-of-lt g in

@@ -12,7 +12,7 @@ use Rattle.geometry.specs.Range.{range}
 use Rattle.geometry.specs.Radix.{volume, coordsOf, indexOf}
 use Rattle.geometry.specs.Shape.{Shape}
 use Rattle.geometry.specs.Steps.{movedOf, fwdOf, bwdOf}
-use Rattle.geometry.specs.Stride.{strideOf, stridesOf, upOf, downOf, Step}
+use Rattle.geometry.specs.Stride.{strideOf, stridesOf, upOf, downOf, StepBounds}
 use Rattle.geometry.proofs.Radix.{left-pos, right-pos, coords-within, index-coords}
 use Rattle.geometry.proofs.Range.{listed-at}
 use Rattle.geometry.proofs.Shape.{volume-pos, volume-high, axis-in}
@@ -177,7 +177,7 @@ strides-are d h =
     first = unfold strideOf volume in refl
 
 module _ (d : List ℕ) (shape : Shape d) (n mu : ℕ) (below : n < volume d) (axis : mu < 4) where
-  pub step-fits : Step n (getD (coordsOf d n) mu 0) (getD d mu 0) (strideOf d mu) (strideOf d (suc mu))
+  pub step-fits : StepBounds n (getD (coordsOf d n) mu 0) (getD d mu 0) (strideOf d mu) (strideOf d (suc mu))
   step-fits =
       let c = getD (coordsOf d n) mu 0 in
       let e = getD d mu 0 in
@@ -199,7 +199,7 @@ module _ (d : List ℕ) (shape : Shape d) (n mu : ℕ) (below : n < volume d) (a
         back = λ h. let g = mul-le-mul-left s (let a : 1 ≤ c = h in a) in omega (arith, g, o);
       }
 
-  pub stride-fits : Step n (n / strideOf d mu % getD d mu 0) (getD d mu 0) (strideOf d mu) (strideOf d (suc mu))
+  pub stride-fits : StepBounds n (n / strideOf d mu % getD d mu 0) (getD d mu 0) (strideOf d mu) (strideOf d (suc mu))
   stride-fits = rw (← (coord-at d n mu (axis-in d shape mu axis))) step-fits
 
 -- what a move by the stride s may count on, and where it leads: c is the coordinate, e the extent

@@ -23,10 +23,10 @@ indexOf (e ∷ d) [] = 0
 indexOf (e ∷ d) (c ∷ cs) = c + e * indexOf d cs
 
 -- the coordinates of the next site: the first that can go on does, those before it go back to 0
-unfoldable pub nextOf : List ℕ → List ℕ → List ℕ
-nextOf [] cs = []
-nextOf (e ∷ d) [] = []
-nextOf (e ∷ d) (c ∷ cs) = cond (ltb (c + 1) e) ((c + 1) ∷ cs) (0 ∷ nextOf d cs)
+unfoldable pub nextCoords : List ℕ → List ℕ → List ℕ
+nextCoords [] cs = []
+nextCoords (e ∷ d) [] = []
+nextCoords (e ∷ d) (c ∷ cs) = cond (ltb (c + 1) e) ((c + 1) ∷ cs) (0 ∷ nextCoords d cs)
 
 -- coordinates, one to each extent and below it
 pub record Within (d cs : List ℕ) : Type 0 where

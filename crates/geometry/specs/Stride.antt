@@ -27,7 +27,7 @@ unfoldable pub downOf : ℕ → ℕ → ℕ → ℕ → ℕ
 downOf n c s w = cond (ltb 0 c) (n - s) (n + w - s)
 
 -- what such a step may count on
-pub record Step (n c e s w : ℕ) : Type 0 where
+pub record StepBounds (n c e s w : ℕ) : Type 0 where
   pub site : n < 65536
   pub stride : s ≤ w
   pub span : w ≤ 65536

@@ -16,7 +16,7 @@ use Rattle.gauge.specs.Plaquette.{plaquetteOf, averageOf, actionOf}
 use Rattle.gauge.specs.Staple.{stapleOf}
 use Rattle.gauge.specs.Polyakov.{polyakovOf}
 use Rattle.lattice.specs.declared.CoordsAnswer.{CoordsAnswer}
-use Rattle.lattice.specs.declared.LoopAnswer.{LoopAnswer}
+use Rattle.lattice.specs.declared.PolyakovAnswer.{PolyakovAnswer}
 use Rattle.lattice.specs.declared.Plan.{Plan}
 use Rattle.field_judges.specs.Situations.{badNumber, badPair, badMatrix}
 use Rattle.field_judges.specs.Rows.{siteRows, fieldRows, planRows, planeRows, linkRows}
@@ -24,8 +24,8 @@ use Rattle.field_judges.specs.Rows.{siteRows, fieldRows, planRows, planeRows, l
 unfoldable pub coordsAnswer : ℕ → List ℕ → CoordsAnswer
 coordsAnswer row c = record { refusal = row; coords = ifAccepted row c (0 ∷ 0 ∷ 0 ∷ 0 ∷ []) }
 
-unfoldable pub loopAnswer : ℕ → C64 → LoopAnswer
-loopAnswer row z = record { refusal = row; re = ifAccepted row z czero .re; im = ifAccepted row z czero .im }
+unfoldable pub polyakovAnswer : ℕ → C64 → PolyakovAnswer
+polyakovAnswer row z = record { refusal = row; re = ifAccepted row z czero .re; im = ifAccepted row z czero .im }
 
 -- ## One call each
 
@@ -54,7 +54,7 @@ actionRow d c l = finally (firstRow (planRows d c (length l))) (badNumber (actio
 abbrev pub ActionCall : Plan → List Float → Number → Type 0
 ActionCall p l r = IsNumber (actionRow (p .extents) (p .coupling) l) (actionOf (p .extents) (linkOf (p .extents) l) (p .coupling)) r
 
-unfoldable pub loopCall : List ℕ → List Float → LoopAnswer
-loopCall d l =
+unfoldable pub polyakovCall : List ℕ → List Float → PolyakovAnswer
+polyakovCall d l =
     let z = polyakovOf d (linkOf d l) in
-    loopAnswer (finally (firstRow (fieldRows d (length l))) (badPair z, 10)) z
+    polyakovAnswer (finally (firstRow (fieldRows d (length l))) (badPair z, 10)) z

@@ -40,7 +40,7 @@ pub struct CoordsAnswer {
 }
 
 // A complex number, and 0; or the row that refuses the call, and zeros.
-pub struct LoopAnswer {
+pub struct PolyakovAnswer {
     pub refusal: u32,
     pub re: f64,
     pub im: f64,

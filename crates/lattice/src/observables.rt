@@ -1,5 +1,5 @@
-use crate::LoopAnswer;
 use crate::Plan;
+use crate::PolyakovAnswer;
 use complex::C64;
 use field_judges::field_row;
 use field_judges::judged_matrix;
@@ -14,20 +14,20 @@ ghost use mathlib.Core.Path.{_≡_};
 ghost use mathlib.Core.List.{[], _∷_};
 ghost use Rattle.rows.specs.Rows.{firstRow};
 ghost use Rattle.field_judges.specs.Situations.{badPair};
-ghost use Rattle.lattice.specs.Answers.{loopAnswer, plaquetteCall, stapleCall, AverageCall, ActionCall, loopCall};
+ghost use Rattle.lattice.specs.Answers.{polyakovAnswer, plaquetteCall, stapleCall, AverageCall, ActionCall, polyakovCall};
 
 // A complex number as an answer.
-fn judged_pair(z: C64) -> LoopAnswer
-    ensures { λ r. ⌜ r ≡ loopAnswer (firstRow ((badPair z, 10) ∷ [])) z ⌝ }
+fn judged_pair(z: C64) -> PolyakovAnswer
+    ensures { λ r. ⌜ r ≡ polyakovAnswer (firstRow ((badPair z, 10) ∷ [])) z ⌝ }
 {
     if !z.is_finite() {
-        return LoopAnswer {
+        return PolyakovAnswer {
             refusal: 10,
             re: 0.0,
             im: 0.0,
         };
     }
-    LoopAnswer {
+    PolyakovAnswer {
         refusal: 0,
         re: z.re,
         im: z.im,
@@ -97,12 +97,12 @@ pub fn action(plan: Plan, links: &[f64]) -> Number
 }
 
 // The Polyakov loop ⟨Tr Π U_0⟩ / 3, averaged over space.
-pub fn polyakov_loop(extents: [usize; 4], links: &[f64]) -> LoopAnswer
-    ensures { λ r. ⌜ r ≡ loopCall extents (now (links .entry)) ⌝ }
+pub fn polyakov_loop(extents: [usize; 4], links: &[f64]) -> PolyakovAnswer
+    ensures { λ r. ⌜ r ≡ polyakovCall extents (now (links .entry)) ⌝ }
 {
     let row = field_row(extents, links.len());
     if row != 0 {
-        return LoopAnswer {
+        return PolyakovAnswer {
             refusal: row,
             re: 0.0,
             im: 0.0,

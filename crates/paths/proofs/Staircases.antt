@@ -1,17 +1,16 @@
 -- Staircases by value can be walked along: their steps are the staircase's, along axes of space.
-use Prim.Native.Nat.{ℕ, suc, _+_, _-_, _<_, _≤_}
+use Prim.Native.Nat.{ℕ, _-_, _<_}
 use mathlib.Core.Bool.{false}
-use mathlib.Core.List.{List, _++_, map}
+use mathlib.Core.List.{List}
 use mathlib.Core.Path.{_≡_}
 use native.Mathlib.Omega.{arith}
-use lib.ListN.{length, getD, take, replicate, length-append, List·getD-append}
+use lib.ListN.{length, getD, replicate, length-append, List·getD-append}
 use lib.Seq.{take-at}
 use lib.IntN.{ℤ}
-use Rattle.geometry.specs.Range.{range}
 use Rattle.geometry.proofs.Range.{length-listed, listed-at}
 use Rattle.stairs.specs.declared.Stairs.{Stairs}
 use Rattle.stairs.specs.Offsets.{badOffsets}
-use Rattle.stairs.specs.Staircase.{bestOf, stepAlong, placeAt, stepAt, stepsTo, staircaseOf, stairsOf, noStep}
+use Rattle.stairs.specs.Staircase.{stepAlong, placeAt, stepAt, stepsTo, staircaseOf, stairsOf, noStep}
 use Rattle.stairs.proofs.Best.{best-low}
 use Rattle.stairs.proofs.Places.{steps-low}
 use Rattle.paths.specs.Path.{taken, Passable}

@@ -1,5 +1,5 @@
 -- Walks from spot to spot, step by step.
-use Prim.Native.Nat.{ℕ, zero, suc, _+_, _*_, _<_, _≤_}
+use Prim.Native.Nat.{ℕ, zero, suc, _+_, _*_, _<_}
 use mathlib.Core.Bool.{Bool, true, false, cond}
 use mathlib.Core.List.{List, [], _∷_, _++_}
 use mathlib.Core.Path.{_≡_, refl, ap, sym, _∙_}
@@ -19,7 +19,6 @@ use Rattle.geometry.specs.Stride.{strideOf, stridesOf, Standing}
 use Rattle.geometry.proofs.Stride.{stride-of, stride-last}
 use Rattle.geometry.proofs.Neighbour.{fwd-below, bwd-below}
 use Rattle.links.specs.Field.{Field, Stored}
-use Rattle.gauge.specs.Field.{linkOf, Holds}
 use Rattle.gauge.specs.Polyakov.{laterOf, timeLineOf}
 use Rattle.gauge.proofs.Fits.{sized}
 use Rattle.stairs.specs.declared.Step.{Step}

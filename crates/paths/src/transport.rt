@@ -3,7 +3,6 @@ use geometry::Spot;
 use mat::Su3;
 use stairs::Stairs;
 ghost use mathlib.Core.Path.{_≡_};
-ghost use Prim.Native.Nat.{_≤_};
 ghost use Rattle.geometry.specs.Steps.{spotOf};
 ghost use Rattle.geometry.specs.Stride.{Standing};
 ghost use Rattle.gauge.specs.Field.{linkOf};

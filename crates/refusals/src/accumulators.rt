@@ -110,6 +110,11 @@ fn scratch(links: &[f64]) {
 fn mean_loops() {
     let odd = held([2, 2, 3], 2, 16, 1.0);
     number_line(b"mean loop, grid 2 2 3: ", odd.mean_loop());
+    let mut far = held(GRID, 2, 16, 1.0);
+    far.offsets = FAR;
+    number_line(b"mean loop, an offset 33 held: ", far.mean_loop());
+    let five = held(GRID, 5, 16, 1.0);
+    number_line(b"mean loop, 5 densities held: ", five.mean_loop());
     let none = held(GRID, 2, 0, 1.0);
     number_line(b"mean loop, samples 0: ", none.mean_loop());
     let infinite = held(GRID, 2, 16, 1.0 / 0.0);
@@ -127,6 +132,10 @@ fn correlation(label: &[u8], acc: FluxAccumulator, k: u32, list: &mut [f64]) {
 
 fn correlations() {
     let good = held(GRID, 2, 16, 1.0);
+    let short = [1.0; 15];
+    let mut list = [7.0; 8];
+    let r = good.correlation(1, &short, &mut list);
+    line(b"correlation, 15 grid numbers: ", r.refusal);
     let mut nine = [7.0; 9];
     correlation(b"correlation, 9 numbers: ", good, 1, &mut nine);
     let mut list = [7.0; 8];

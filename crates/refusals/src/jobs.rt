@@ -1,4 +1,4 @@
-// Rows 1 and 5 to 9 of half-sweeps; of 16 sites 8 have a parity.
+// Rows 1, 3 and 5 to 9 of half-sweeps; of 16 sites 8 have a parity.
 use crate::EXTENTS;
 use crate::line;
 use lattice::Plan;

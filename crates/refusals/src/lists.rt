@@ -25,6 +25,8 @@ fn check(label: &[u8], links: &[f64], found: &mut [u32]) {
 fn lengths() {
     let short = [0.0; 1151];
     average(b"1151 link numbers: ", &short);
+    let r = lattice::plaquette(EXTENTS, 16, 0, 1, &short);
+    line(b"plaquette at site 16 of 1151 link numbers: ", r.refusal);
     let long = [0.0; 1153];
     average(b"1153 link numbers: ", &long);
     let zeros = [0.0; 1152];

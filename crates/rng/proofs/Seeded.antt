@@ -5,7 +5,6 @@ use mathlib.Core.Path.{_≡_}
 use lib.Bits.{bitXor}
 use Rattle.words.specs.Words.{mul64}
 use Rattle.rng.specs.declared.Mixed.{Mixed}
-use Rattle.rng.specs.declared.Rng.{Rng}
 use Rattle.rng.specs.Splitmix.{splitmixOf}
 use Rattle.rng.specs.Stream.{streamOf, keyOf, seededOf}
 

@@ -9,11 +9,11 @@ use lib.ListN.{length}
 use Rattle.loops.specs.Loops.{foldTo}
 use Rattle.complex.specs.Rounded.{_⊠_}
 use Rattle.slices.specs.Slices.{number}
-use Rattle.slices.specs.Parts.{runSum, wrappedSum, Run, Row}
+use Rattle.slices.specs.Parts.{runSum, wrappedSum, Run, CellRow}
 use Rattle.loops.proofs.Folds.{fold-same, fold-more}
 
 module _ (w dens : List Float) (first at nt nx rx : ℕ) where
-  module _ (row : Row w dens first at nt nx rx) where
+  module _ (row : CellRow w dens first at nt nx rx) where
     pub to-end : Run w dens first (at + nt * rx) nt (nx - rx)
     to-end = record {
       loops = omega (arith, row .run .loops);

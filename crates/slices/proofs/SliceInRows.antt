@@ -13,7 +13,7 @@ use Rattle.geometry.specs.Shape.{Shape}
 use Rattle.geometry.proofs.Shape.{axis-in}
 use Rattle.gauge.proofs.TimeLine.{places-are, line-below}
 use Rattle.slices.specs.Slices.{places, siteAt, shifted, number, numbersFrom, productAt}
-use Rattle.slices.specs.Parts.{wrappedSum, rowSum, planeSum, Row, Cell}
+use Rattle.slices.specs.Parts.{wrappedSum, rowSum, planeSum, CellRow, Cell}
 use Rattle.loops.proofs.Folds.{fold-same, fold-iter, iter-same, iter-nested}
 use Rattle.slices.proofs.Places.{three, space-are, shifted-three, site-at, three-below, RowSmall, row-small}
 
@@ -94,7 +94,7 @@ module _ (w dens : List Float) (d : List ℕ) (b tm : ℕ) (c : List ℕ) (cell 
   pub offset-three : Within (three nx ny nz) c
   offset-three = rw (space-are d (cell .shape)) at (cell .offset)
 
-  row-there : (y z u v : ℕ) → y < ny → z < nz → u < ny → v < nz → Row w dens (nx * (y + ny * z)) (b + tm + nt * (nx * (u + ny * v))) nt nx (getD c 0 0)
+  row-there : (y z u v : ℕ) → y < ny → z < nz → u < ny → v < nz → CellRow w dens (nx * (y + ny * z)) (b + tm + nt * (nx * (u + ny * v))) nt nx (getD c 0 0)
   row-there y z u v hy hz hu hv = record {
     run = record {
       loops =
@@ -112,7 +112,7 @@ module _ (w dens : List Float) (d : List ℕ) (b tm : ℕ) (c : List ℕ) (cell 
 pub record TwoRows (w dens : List Float) (d : List ℕ) (b tm : ℕ) (c : List ℕ) (y z u v : ℕ) : Type 0 where
   pub here : RowSmall d y z
   pub there : RowSmall d u v
-  pub row : Row w dens (getD d 1 0 * (y + getD d 2 0 * z)) (b + tm + getD d 0 0 * (getD d 1 0 * (u + getD d 2 0 * v))) (getD d 0 0) (getD d 1 0) (getD c 0 0)
+  pub row : CellRow w dens (getD d 1 0 * (y + getD d 2 0 * z)) (b + tm + getD d 0 0 * (getD d 1 0 * (u + getD d 2 0 * v))) (getD d 0 0) (getD d 1 0) (getD c 0 0)
   pub start : b + tm + getD d 0 0 * (getD d 1 0 * (u + getD d 2 0 * v)) < length dens
 
 pub two-rows : (w dens : List Float) (d : List ℕ) (b tm : ℕ) (c : List ℕ) → Cell w dens d b tm c → {y z u v : ℕ} (p q : ℕ) → y < getD d 2 0 → z < getD d 3 0

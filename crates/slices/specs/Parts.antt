@@ -37,7 +37,7 @@ pub record Run (w dens : List Float) (first at nt n : ℕ) : Type 0 where
   pub loops : first + n ≤ length w
   pub densities : (i : ℕ) → i < n → at + nt * i < length dens
 
-pub record Row (w dens : List Float) (first at nt nx rx : ℕ) : Type 0 where
+pub record CellRow (w dens : List Float) (first at nt nx rx : ℕ) : Type 0 where
   pub run : Run w dens first at nt nx
   pub offset : rx < nx
 

@@ -5,7 +5,7 @@
 ghost use mathlib.Core.Path.{_≡_};
 ghost use Prim.Native.Nat.{_+_, _%_, _<_};
 ghost use Rattle.slices.specs.Slices.{number, numbersFrom, productAt, sliceSum, withSlice};
-ghost use Rattle.slices.specs.Parts.{runSum, wrappedSum, planeSum, Run, Row, Cell, CellPlane, Scratch};
+ghost use Rattle.slices.specs.Parts.{runSum, wrappedSum, planeSum, Run, CellRow, Cell, CellPlane, Scratch};
 
 // A number below 2n, modulo n.
 fn wrap(a: usize, n: usize) -> usize
@@ -38,7 +38,7 @@ fn row(
     rx: usize,
     sum: f64,
 ) -> f64
-    requires { ⌜ Row (now w) (now dens) first at nt nx rx ⌝ }
+    requires { ⌜ CellRow (now w) (now dens) first at nt nx rx ⌝ }
     ensures { λ r. ⌜ r ≡ wrappedSum (now (w .entry)) (now (dens .entry)) first at nt nx rx sum ⌝ }
 {
     let to_end = nx - rx;

@@ -1,19 +1,17 @@
 -- The places of a staircase, step by step, and the array of its steps.
 use Prim.Native.Nat.{ℕ, zero, suc, _+_, _-_, _<_, _≤_}
 use mathlib.Core.Bool.{false}
-use mathlib.Core.List.{List, [], _∷_, _++_, map}
-use mathlib.Core.Path.{_≡_, refl, ap, sym, _∙_}
+use mathlib.Core.List.{List, [], _∷_}
+use mathlib.Core.Path.{_≡_, refl, ap, _∙_}
 use native.Mathlib.Decide.{ℕ-discrete}
 use native.Mathlib.Numerals.{add-one}
 use native.Mathlib.Omega.{arith}
-use lib.ListN.{length, getD, set, drop, replicate, length-set}
+use lib.ListN.{length, set, drop, replicate, length-set}
 use lib.Seq.{getD-set-same, getD-set-other}
 use lib.IntN.{ℤ, pos, natAbs, _+ℤ_}
 use Rattle.loops.specs.Loops.{fill}
-use Rattle.geometry.specs.Range.{range}
 use Rattle.geometry.proofs.Range.{fill-front}
 use Rattle.stairs.specs.declared.Step.{Step}
-use Rattle.stairs.specs.declared.Stairs.{Stairs}
 use Rattle.stairs.specs.Line.{alongOf, signum}
 use Rattle.stairs.specs.Offsets.{badOffsets}
 use Rattle.stairs.specs.Staircase.{steppedTo, bestOf, stepAlong, placeAt, stepAt, stepsTo, staircaseOf, stairsOf, noStep, Reached}

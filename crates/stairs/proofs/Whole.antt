@@ -1,6 +1,6 @@
 -- Whole numbers: signs, steps of one, and what the machine's i32 asks.
 use Prim.Native.Nat.{ℕ, zero, suc, _+_, _-_, _<_, _≤_}
-use mathlib.Core.Path.{_≡_, refl, ap, sym, _∙_}
+use mathlib.Core.Path.{_≡_, refl, sym}
 use mathlib.Core.Bool.{Bool, true, false, cond, _||_}
 use native.Mathlib.Omega.{arith}
 use lib.Dec.{T, ltb}

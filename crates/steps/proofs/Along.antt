@@ -8,7 +8,7 @@ use lib.ListN.{getD}
 use Rattle.geometry.specs.Radix.{volume}
 use Rattle.geometry.specs.Shape.{Shape}
 use Rattle.geometry.specs.Steps.{fwdOf, bwdOf}
-use Rattle.geometry.specs.Stride.{strideOf, stridesOf, upOf, downOf, Step}
+use Rattle.geometry.specs.Stride.{strideOf, stridesOf, upOf, downOf, StepBounds}
 use Rattle.geometry.proofs.Shape.{axis-in}
 use Rattle.geometry.proofs.Stride.{Move, move-at, stride-of, stride-fits, stride-up, stride-down}
 
@@ -25,7 +25,7 @@ module _ (d : List ℕ) (n mu : ℕ) (q : Shape d × (n < volume d) × (mu < 4))
   pub move : Move d n mu 1 coord (getD d mu 0) (getD s mu 0)
   move = move-at d (q .0) n mu 1 _ (q .1) (q .2) here
 
-  pub fits : Step n coord (getD d mu 0) (getD s mu 0) (getD s (mu + 1) 0)
+  pub fits : StepBounds n coord (getD d mu 0) (getD s mu 0) (getD s (mu + 1) 0)
   fits = rw (here, after) (stride-fits d (q .0) n mu (q .1) (q .2))
 
   pub up : upOf n coord (getD d mu 0) (getD s mu 0) (getD s (mu + 1) 0) ≡ fwdOf d n mu

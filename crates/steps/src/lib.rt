@@ -3,10 +3,10 @@ use geometry::Near;
 use geometry::Spot;
 ghost use mathlib.Core.Path.{_≡_};
 ghost use Prim.Native.Nat.{_+_, _-_, _%_, _<_};
-ghost use Rattle.geometry.specs.Radix.{volume, coordsOf, nextOf, Within};
+ghost use Rattle.geometry.specs.Radix.{volume, coordsOf, nextCoords, Within};
 ghost use Rattle.geometry.specs.Shape.{Shape};
 ghost use Rattle.geometry.specs.Steps.{fwdOf, bwdOf, nearOf, spotOf};
-ghost use Rattle.geometry.specs.Stride.{stridesOf, upOf, downOf, Step, Standing};
+ghost use Rattle.geometry.specs.Stride.{stridesOf, upOf, downOf, StepBounds, Standing};
 
 // How far apart neighbours are along each axis, and last the number of sites.
 pub fn strides(d: [usize; 4]) -> [usize; 5]
@@ -20,7 +20,7 @@ pub fn strides(d: [usize; 4]) -> [usize; 5]
 
 // One step up an axis: c is the coordinate, e the extent, s the stride, w the next axis's stride.
 fn step_up(n: usize, c: usize, e: usize, s: usize, w: usize) -> usize
-    requires { ⌜ Step n c e s w ⌝ }
+    requires { ⌜ StepBounds n c e s w ⌝ }
     ensures { λ r. ⌜ r ≡ upOf n c e s w ⌝ }
 {
     if c + 1 < e { n + s } else { n + s - w }
@@ -28,7 +28,7 @@ fn step_up(n: usize, c: usize, e: usize, s: usize, w: usize) -> usize
 
 // One step down an axis.
 fn step_down(n: usize, c: usize, e: usize, s: usize, w: usize) -> usize
-    requires { ⌜ Step n c e s w ⌝ }
+    requires { ⌜ StepBounds n c e s w ⌝ }
     ensures { λ r. ⌜ r ≡ downOf n c s w ⌝ }
 {
     if 0 < c { n - s } else { n + w - s }
@@ -128,7 +128,7 @@ pub fn down(d: [usize; 4], s: [usize; 5], p: Spot, mu: usize) -> Spot
 // The coordinates of the site with the next number, from a site's: a walk over all sites needs no division.
 pub fn next(d: [usize; 4], c: [usize; 4]) -> [usize; 4]
     requires { ⌜ Shape d × Within d c ⌝ }
-    ensures { λ r. ⌜ r ≡ nextOf d c ⌝ }
+    ensures { λ r. ⌜ r ≡ nextCoords d c ⌝ }
 {
     if c[0] + 1 < d[0] {
         return [c[0] + 1, c[1], c[2], c[3]];

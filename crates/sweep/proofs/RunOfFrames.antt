@@ -17,7 +17,7 @@ use Rattle.gauge.specs.Field.{linkOf, listOf}
 use Rattle.gauge.proofs.Lists.{Same, length-list, links-of}
 use Rattle.lattice.specs.declared.Plan.{Plan}
 use Rattle.field_judges.proofs.Laws.{bad-links, good-links}
-use Rattle.visits.specs.Visits.{stuckAmong, segment, overrelax, overrelaxedField, stuckLinks}
+use Rattle.visits.specs.Visits.{stuckAmong, segment, overrelax, overrelaxedField, stuckCount}
 use Rattle.sweep.specs.Jobs.{InRange, newJob, counted, openCall, openRow, frameRow, frameSites, frameAnswer, frameLinks, finishedRows, finishedCall}
 use Rattle.sweep.specs.RunOfFrames.{Frame, Between, opened, answerOf, next, run, acceptedSum, OthersMisfit, Answered, firstSites, Swept, FramesAreVisits}
 use Rattle.sweep.proofs.Laws.{good-job, Accepted, accepted-opening}
@@ -32,7 +32,7 @@ module _ (q : Plan) (mu p : ℕ) (l₀ : List Float) (ok : Accepted q mu p) (lon
 
   abbrev pub stateAt : ℕ → Between
   stateAt s = record {
-    job = counted (newJob q mu p) s (stuckLinks (q .extents) mu (linkOf (q .extents) l₀) (firstSites (q .extents) p s));
+    job = counted (newJob q mu p) s (stuckCount (q .extents) mu (linkOf (q .extents) l₀) (firstSites (q .extents) p s));
     links = linksAfter s;
   }
 
@@ -88,11 +88,11 @@ module _ (q : Plan) (mu p : ℕ) (l₀ : List Float) (ok : Accepted q mu p) (lon
       visits-join (q .extents) (ok .shape) mu p (ok .axis) l₀ (linksAfter s) (firstSites (q .extents) p s) (more s n) (both s n) refl
       ∙ ap (λ (a : List ℕ). listOf (q .extents) (overrelaxedField (q .extents) mu (linkOf (q .extents) l₀) a)) (all-left s n)
 
-  stuck-next : (s n : ℕ) → stateAt s .job .stuck + stuckLinks (q .extents) mu (linkOf (q .extents) (linksAfter s)) (more s n)
+  stuck-next : (s n : ℕ) → stateAt s .job .stuck + stuckCount (q .extents) mu (linkOf (q .extents) (linksAfter s)) (more s n)
       ≡ stateAt (min (s + n) (halfOf (q .extents))) .job .stuck
   stuck-next s n =
       count-join (q .extents) (ok .shape) mu p (ok .axis) l₀ (linksAfter s) (firstSites (q .extents) p s) (more s n) (both s n) refl
-      ∙ ap (λ (a : List ℕ). stuckLinks (q .extents) mu (linkOf (q .extents) l₀) a) (all-left s n)
+      ∙ ap (λ (a : List ℕ). stuckCount (q .extents) mu (linkOf (q .extents) l₀) a) (all-left s n)
 
   visited-next : (s n : ℕ) → s ≤ halfOf (q .extents) → s + length (more s n) ≡ min (s + n) (halfOf (q .extents))
   visited-next s n h = ap (λ (k : ℕ). s + k) (length-part (q .extents) p (ok .shape) (ok .two) s n) ∙ omega arith

@@ -20,7 +20,7 @@ use Rattle.gauge.specs.Field.{linkOf, listOf}
 use Rattle.update.specs.Update.{isStuck, updateOf}
 use Rattle.gauge.proofs.Lists.{Same, list-same, list-holds, links-of}
 use Rattle.update.proofs.UpdateLaws.{updated-nine, update-reads-no-other}
-use Rattle.visits.specs.Visits.{stuckAmong, segment, overrelax, overrelaxedField, stuckLinks}
+use Rattle.visits.specs.Visits.{stuckAmong, segment, overrelax, overrelaxedField, stuckCount}
 use Rattle.visits.proofs.Visited.{Inside, visited-none, visited-nine, visited-join, stuck-append, stuck-few, stuck-join}
 
 -- ## sites that follow each other
@@ -61,7 +61,7 @@ module _ (d : List ℕ) (p : ℕ) where
         take-suc (drop s (sitesOf d p)) t 0 room
         ∙ ap (λ (n : ℕ). segment d p s t ++ (n ∷ [])) (getD-drop s (sitesOf d p) t 0 ∙ site-at d shape p two (s + t) h)
 
-    pub few-stuck : (mu : ℕ) (U : Field) (s t : ℕ) {r : ℕ} → r ≡ stuckLinks d mu U (segment d p s t) → r ≤ t
+    pub few-stuck : (mu : ℕ) (U : Field) (s t : ℕ) {r : ℕ} → r ≡ stuckCount d mu U (segment d p s t) → r ≤ t
     few-stuck mu U s t e = omega (arith, e, stuck-few (overrelax d mu) U (segment d p s t), length-part s t)
 
 -- ## visits of one piece, and then of the other
@@ -85,9 +85,9 @@ module _ (d : List ℕ) (shape : Shape d) (mu p : ℕ) (axis : mu < 4) where
         list-same d (visited-join d mu p (overrelax d mu) axis (λ U W. update-reads-no-other d shape mu p U W axis)
         (linkOf d l₀) (linkOf d l) a b (both .first) (both .second) (both .apart) same)
 
-    pub count-join : stuckLinks d mu (linkOf d l₀) a + stuckLinks d mu (linkOf d l) b ≡ stuckLinks d mu (linkOf d l₀) (a ++ b)
+    pub count-join : stuckCount d mu (linkOf d l₀) a + stuckCount d mu (linkOf d l) b ≡ stuckCount d mu (linkOf d l₀) (a ++ b)
     count-join =
-        ap (λ (x : ℕ). stuckLinks d mu (linkOf d l₀) a + x)
+        ap (λ (x : ℕ). stuckCount d mu (linkOf d l₀) a + x)
         (stuck-join d mu p (overrelax d mu) axis (λ U W. update-reads-no-other d shape mu p U W axis)
         (linkOf d l₀) (linkOf d l) a b (both .first) (both .second) (both .apart) same)
         ∙ sym (stuck-append (overrelax d mu) (linkOf d l₀) a b)
@@ -107,15 +107,15 @@ module _ (d : List ℕ) (shape : Shape d) (mu p : ℕ) (axis : mu < 4) (two : p 
     pub visits-next : listOf d (overrelaxedField d mu (linkOf d l) (n ∷ [])) ≡ listOf d (overrelaxedField d mu (linkOf d l₀) (segment d p from (k + 1)))
     visits-next = rw grown (visits-join d shape mu p axis l₀ l (segment d p from k) (n ∷ []) both after)
 
-    pub count-next : stuckLinks d mu (linkOf d l₀) (segment d p from k) + stuckLinks d mu (linkOf d l) (n ∷ []) ≡ stuckLinks d mu (linkOf d l₀) (segment d p from (k + 1))
+    pub count-next : stuckCount d mu (linkOf d l₀) (segment d p from k) + stuckCount d mu (linkOf d l) (n ∷ []) ≡ stuckCount d mu (linkOf d l₀) (segment d p from (k + 1))
     count-next = rw grown (count-join d shape mu p axis l₀ l (segment d p from k) (n ∷ []) both after)
 
 -- it is stuck or not
 module _ (d : List ℕ) (mu : ℕ) (U : Field) (n : ℕ) where
-  pub one-stuck : isStuck (updateOf d U n mu .stuck) ≡ true → stuckLinks d mu U (n ∷ []) ≡ 1
+  pub one-stuck : isStuck (updateOf d U n mu .stuck) ≡ true → stuckCount d mu U (n ∷ []) ≡ 1
   unfolding stuckAmong
   one-stuck e = ap length (if-pos (Bool-discrete (isStuck (updateOf d U n mu .stuck)) true) e (n ∷ []) [])
 
-  pub one-free : isStuck (updateOf d U n mu .stuck) ≡ false → stuckLinks d mu U (n ∷ []) ≡ 0
+  pub one-free : isStuck (updateOf d U n mu .stuck) ≡ false → stuckCount d mu U (n ∷ []) ≡ 0
   unfolding stuckAmong
   one-free e = ap length (if-neg (Bool-discrete (isStuck (updateOf d U n mu .stuck)) true) (λ h. true≢false (sym h ∙ e)) (n ∷ []) [])

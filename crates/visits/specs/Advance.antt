@@ -7,7 +7,7 @@ use lib.Ieee.{Float}
 use Rattle.geometry.specs.Order.{halfOf}
 use Rattle.gauge.specs.Field.{linkOf, listOf, Holds}
 use Rattle.update.specs.Update.{isStuck, updateOf}
-use Rattle.visits.specs.Visits.{segment, overrelaxedField, stuckLinks}
+use Rattle.visits.specs.Visits.{segment, overrelaxedField, stuckCount}
 
 -- a visit of one site
 pub record Visited (d : List ℕ) (mu n : ℕ) (old : List Float) (r : Bool) (new : List Float) : Type 0 where
@@ -23,6 +23,6 @@ pub record Segment (d : List ℕ) (l : List Float) (mu p from count : ℕ) : Typ
 
 -- visits of them
 pub record Advanced (d : List ℕ) (mu p from count : ℕ) (old : List Float) (r : ℕ) (new : List Float) : Type 0 where
-  pub stuck : r ≡ stuckLinks d mu (linkOf d old) (segment d p from count)
+  pub stuck : r ≡ stuckCount d mu (linkOf d old) (segment d p from count)
   pub links : new ≡ listOf d (overrelaxedField d mu (linkOf d old) (segment d p from count))
   pub few : r ≤ count

@@ -41,5 +41,5 @@ overrelax d mu U n = updateOf d U n mu
 abbrev pub overrelaxedField : List ℕ → ℕ → Field → List ℕ → Field
 overrelaxedField d mu = visitedField (overrelax d mu) mu
 
-abbrev pub stuckLinks : List ℕ → ℕ → Field → List ℕ → ℕ
-stuckLinks d mu = stuckAmong (overrelax d mu)
+abbrev pub stuckCount : List ℕ → ℕ → Field → List ℕ → ℕ
+stuckCount d mu = stuckAmong (overrelax d mu)

@@ -1,4 +1,4 @@
-use mathlib.Core.Path.{_≡_, refl, ap, sym, _∙_}
+use mathlib.Core.Path.{_≡_, sym, _∙_}
 use native.Mathlib.Omega.{arith}
 use native.Mathlib.Nat.{mod-eq-of-lt, add-mod-right}
 use Prim.Native.Nat.{_+_, _-_, _<_}

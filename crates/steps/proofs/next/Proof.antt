@@ -1,6 +1,6 @@
 use native.Mathlib.Omega.{arith}
 use borrow.Author.Tests.{lt-ltb, le-ltb}
-use Rattle.geometry.specs.Radix.{nextOf}
+use Rattle.geometry.specs.Radix.{nextCoords}
 use Rattle.geometry.proofs.Shape.{four-are}
 use Rattle.geometry.proofs.Bounds.{within-small}
 use borrow.Author.Needs.{needs}
@@ -14,7 +14,7 @@ add-t16 : tie.Need-add-t16
 add-t16 c = omega (arith, within-small _ _ (c .before .pre .0) (c .before .pre .1) .t)
 
 returns : tie.Need-returns
-unfolding nextOf
+unfolding nextCoords
 returns c = rw (four-are (c .before .args .t2) (rw (c .before .pre .1 .long) (c .before .pre .0 .four)), four-are (c .before .args .t1) (c .before .pre .0 .four), lt-ltb _ _ (c .if1 .taken))
 
 add-if2 : tie.Need-add-if2
@@ -24,7 +24,7 @@ add-t33 : tie.Need-add-t33
 add-t33 c = omega (arith, within-small _ _ (c .before .before .pre .0) (c .before .before .pre .1) .x)
 
 returns-2 : tie.Need-returns-2
-unfolding nextOf
+unfolding nextCoords
 returns-2 c = rw (four-are (c .before .before .args .t2) (rw (c .before .before .pre .1 .long) (c .before .before .pre .0 .four)), four-are (c .before .before .args .t1) (c .before .before .pre .0 .four), le-ltb _ _ (c .before .if1 .left), lt-ltb _ _ (c .if2 .taken))
 
 add-if3 : tie.Need-add-if3
@@ -34,7 +34,7 @@ add-t47 : tie.Need-add-t47
 add-t47 c = omega (arith, within-small _ _ (c .before .before .before .pre .0) (c .before .before .before .pre .1) .y)
 
 returns-3 : tie.Need-returns-3
-unfolding nextOf
+unfolding nextCoords
 returns-3 c = rw (four-are (c .before .before .before .args .t2) (rw (c .before .before .before .pre .1 .long) (c .before .before .before .pre .0 .four)), four-are (c .before .before .before .args .t1) (c .before .before .before .pre .0 .four), le-ltb _ _ (c .before .before .if1 .left), le-ltb _ _ (c .before .if2 .left), lt-ltb _ _ (c .if3 .taken))
 
 add-if4 : tie.Need-add-if4
@@ -44,11 +44,11 @@ add-t58 : tie.Need-add-t58
 add-t58 c = omega (arith, within-small _ _ (c .before .before .before .before .pre .0) (c .before .before .before .before .pre .1) .z)
 
 returns-4 : tie.Need-returns-4
-unfolding nextOf
+unfolding nextCoords
 returns-4 c = rw (four-are (c .before .before .before .before .args .t2) (rw (c .before .before .before .before .pre .1 .long) (c .before .before .before .before .pre .0 .four)), four-are (c .before .before .before .before .args .t1) (c .before .before .before .before .pre .0 .four), le-ltb _ _ (c .before .before .before .if1 .left), le-ltb _ _ (c .before .before .if2 .left), le-ltb _ _ (c .before .if3 .left), lt-ltb _ _ (c .if4 .taken))
 
 returns-5 : tie.Need-returns-5
-unfolding nextOf
+unfolding nextCoords
 returns-5 c = rw (four-are (c .before .before .before .before .args .t2) (rw (c .before .before .before .before .pre .1 .long) (c .before .before .before .before .pre .0 .four)), four-are (c .before .before .before .before .args .t1) (c .before .before .before .before .pre .0 .four), le-ltb _ _ (c .before .before .before .if1 .left), le-ltb _ _ (c .before .before .if2 .left), le-ltb _ _ (c .before .if3 .left), le-ltb _ _ (c .if4 .left))
 
 pub next-spec : {M : Type 1} → statement M

@@ -1,4 +1,3 @@
-use mathlib.Core.Path.{_≡_, refl, ap, sym, _∙_}
 use Rattle.geometry.specs.Steps.{spotOf}
 use borrow.Author.Needs.{needs}
 use Rattle.steps.proofs.spot.Statement.{statement}

@@ -9,7 +9,7 @@ use Rattle.geometry.specs.Order.{halfOf}
 use Rattle.geometry.proofs.Shape.{volume-high}
 use Rattle.geometry.proofs.Order.{halves, nth-below}
 use Rattle.gauge.specs.Field.{linkOf, listOf}
-use Rattle.visits.specs.Visits.{stuckAmong, segment, overrelaxedField, stuckLinks}
+use Rattle.visits.specs.Visits.{stuckAmong, segment, overrelaxedField, stuckCount}
 use Rattle.visits.proofs.Joined.{visits-none, visits-next, count-next, one-stuck, one-free}
 use Rattle.visits.proofs.advance.Statement.{statement}
 use Rattle.visits.proofs.advance.Tie as tie
@@ -18,7 +18,7 @@ abbrev Inv-loop : tie.InvT-loop
 Inv-loop links₀ d mu p from count stuck₀ k₀ links stuck k =
     (k ≤ count)
     × (links ≡ listOf d (overrelaxedField d mu (linkOf d links₀) (segment d p from k)))
-    × (stuck ≡ stuckLinks d mu (linkOf d links₀) (segment d p from k))
+    × (stuck ≡ stuckCount d mu (linkOf d links₀) (segment d p from k))
     × (length links ≡ length links₀)
     × (stuck ≤ k)
 
@@ -75,7 +75,7 @@ carry a b x s t e f g = omega arith
 
 -- how the count went on
 counted : (c : tie.Joined1 Inv-loop μ-loop)
-    → (c .if1 .stuck ≡ c .before .before .before .before .before .before .before .loop .stuck + stuckLinks (c .before .before .before .before .before .before .before .before .before .args .d) (c .before .before .before .before .before .before .before .before .before .args .mu) (linkOf (c .before .before .before .before .before .before .before .before .before .args .d) (c .before .before .before .before .before .before .before .loop .links)) (c .before .before .before .before .nth .result ∷ []))
+    → (c .if1 .stuck ≡ c .before .before .before .before .before .before .before .loop .stuck + stuckCount (c .before .before .before .before .before .before .before .before .before .args .d) (c .before .before .before .before .before .before .before .before .before .args .mu) (linkOf (c .before .before .before .before .before .before .before .before .before .args .d) (c .before .before .before .before .before .before .before .loop .links)) (c .before .before .before .before .nth .result ∷ []))
     × (c .if1 .stuck ≤ c .before .before .before .before .before .before .before .loop .stuck + 1)
 counted c =
     ⊎-elim

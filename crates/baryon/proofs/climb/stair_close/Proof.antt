@@ -1,5 +1,5 @@
 use Rattle.rows.proofs.Laws.{count-refused}
-use mathlib.Core.Path.{_≡_, refl, ap, sym, _∙_}
+use mathlib.Core.Path.{refl}
 use Rattle.rows.specs.Answers.{countOf}
 use Rattle.baryon.proofs.climb.stair_close.Statement.{statement}
 use Rattle.baryon.proofs.climb.stair_close.Tie as tie

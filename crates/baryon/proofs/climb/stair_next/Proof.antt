@@ -1,4 +1,3 @@
-use mathlib.Core.Path.{_≡_, refl, ap, sym, _∙_}
 use Rattle.stairs.proofs.Best.{best-low}
 use Rattle.baryon.specs.Climb.{stairNext}
 use borrow.Author.Needs.{needs}

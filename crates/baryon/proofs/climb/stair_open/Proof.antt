@@ -1,4 +1,4 @@
-use mathlib.Core.Path.{_≡_, refl, ap, sym, _∙_}
+use mathlib.Core.Path.{refl}
 use Rattle.rows.proofs.Laws.{if-refused, if-accepted}
 use Rattle.baryon.specs.Climb.{stairOpened}
 use borrow.Author.Needs.{needs}

@@ -1,4 +1,4 @@
-use mathlib.Core.Path.{_≡_, refl, ap, sym, _∙_}
+use mathlib.Core.Path.{refl, _∙_}
 use Rattle.rows.proofs.Laws.{no-row, row-holds, row-passes, refuses, accepts, first-refuses, first-passes}
 use Rattle.stairs.proofs.Whole.{bad-time, good-time}
 use borrow.Author.Needs.{needs}

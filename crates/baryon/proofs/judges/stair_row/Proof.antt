@@ -1,4 +1,4 @@
-use mathlib.Core.Path.{_≡_, refl, ap, sym, _∙_}
+use mathlib.Core.Path.{sym, _∙_}
 use Rattle.rows.proofs.Laws.{no-row, row-holds, row-passes, refuses, accepts}
 use Rattle.baryon.proofs.Laws.{bad-step-room, good-step-room}
 use borrow.Author.Needs.{needs}

@@ -1,4 +1,4 @@
-use mathlib.Core.Path.{_≡_, refl, ap, sym, _∙_}
+use mathlib.Core.Path.{_∙_}
 use native.Mathlib.Omega.{arith}
 use Rattle.rows.proofs.Laws.{first-row, last-row, is-number, number-refused}
 use Rattle.stairs.proofs.Whole.{each-quark}

@@ -1,5 +1,5 @@
 use native.Mathlib.Omega.{arith}
-use mathlib.Core.Path.{_≡_, refl, ap, sym, _∙_}
+use mathlib.Core.Path.{sym, _∙_}
 use mathlib.Core.List.{[]}
 use borrow.Author.Tests.{not-true, not-false}
 use Rattle.rows.proofs.Laws.{no-row, row-holds, row-passes}

@@ -1,4 +1,4 @@
-use mathlib.Core.Path.{_≡_, refl, ap, sym, _∙_}
+use mathlib.Core.Path.{sym, _∙_}
 use Rattle.baryon.proofs.Laws.{path-refused, path-accepted}
 use Rattle.baryon.specs.Walk.{openedOf}
 use borrow.Author.Needs.{needs}

@@ -1,4 +1,4 @@
-use mathlib.Core.Path.{_≡_, refl, ap, sym, _∙_}
+use mathlib.Core.Path.{_∙_}
 use native.Mathlib.Omega.{arith}
 use Rattle.geometry.proofs.Neighbour.{bwd-below}
 use Rattle.gauge.proofs.Fits.{sized}

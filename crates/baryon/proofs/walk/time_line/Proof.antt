@@ -1,5 +1,5 @@
 use Rattle.baryon.proofs.Paths.{line-answered}
-use mathlib.Core.Path.{_≡_, refl, ap, sym, _∙_}
+use mathlib.Core.Path.{_∙_}
 use Rattle.rows.proofs.Laws.{first-row}
 use Rattle.baryon.proofs.Laws.{path-refused}
 use Rattle.baryon.specs.Calls.{lineCall}

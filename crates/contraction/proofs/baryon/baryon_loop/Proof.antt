@@ -1,5 +1,4 @@
 use Rattle.contraction.proofs.Quarks.{loop-of}
-use mathlib.Core.Path.{_≡_, refl, ap, sym, _∙_}
 use borrow.Author.Needs.{needs}
 use Rattle.contraction.proofs.baryon.baryon_loop.Statement.{statement}
 use Rattle.contraction.proofs.baryon.baryon_loop.Tie as tie

@@ -1,5 +1,5 @@
 use Rattle.contraction.proofs.Quarks.{quark-line}
-use mathlib.Core.Path.{_≡_, refl, ap, sym, _∙_}
+use mathlib.Core.Path.{ap}
 use Rattle.paths.specs.declared.Walked.{Walked}
 use Rattle.paths.proofs.Walks.{from-spot, path-below, later-below}
 use borrow.Author.Needs.{needs}

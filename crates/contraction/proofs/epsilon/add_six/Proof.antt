@@ -1,4 +1,3 @@
-use mathlib.Core.Path.{_≡_, refl}
 use Rattle.contraction.specs.Epsilon.{sixOf}
 use borrow.Author.Needs.{needs}
 use Rattle.contraction.proofs.epsilon.add_six.Statement.{statement}

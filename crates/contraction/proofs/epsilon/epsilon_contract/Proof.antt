@@ -1,4 +1,3 @@
-use mathlib.Core.Path.{_≡_, refl}
 use Rattle.contraction.proofs.Contraction.{epsilon-sixes}
 use borrow.Author.Needs.{needs}
 use Rattle.contraction.proofs.epsilon.epsilon_contract.Statement.{statement}

@@ -1,4 +1,3 @@
-use mathlib.Core.Path.{_≡_, refl, ap, sym, _∙_}
 use borrow.Author.Needs.{needs}
 use Rattle.contraction.proofs.epsilon.term.Statement.{statement}
 use Rattle.contraction.proofs.epsilon.term.Tie as tie

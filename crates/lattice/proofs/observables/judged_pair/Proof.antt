@@ -1,18 +1,18 @@
 use mathlib.Core.Path.{sym, _∙_}
 use borrow.Author.Tests.{not-true, not-false}
 use Rattle.rows.specs.Rows.{firstRow, ifAccepted}
-use Rattle.lattice.specs.Answers.{loopAnswer}
+use Rattle.lattice.specs.Answers.{polyakovAnswer}
 use Rattle.field_judges.specs.Situations.{badPair}
 use borrow.Author.Needs.{needs}
 use Rattle.lattice.proofs.observables.judged_pair.Statement.{statement}
 use Rattle.lattice.proofs.observables.judged_pair.Tie as tie
 
 returns : tie.Need-returns
-unfolding loopAnswer ifAccepted firstRow badPair
+unfolding polyakovAnswer ifAccepted firstRow badPair
 returns c = rw (sym (c .before .is-finite .ensures) ∙ not-true _ (c .if1 .taken))
 
 returns-2 : tie.Need-returns-2
-unfolding loopAnswer ifAccepted firstRow badPair
+unfolding polyakovAnswer ifAccepted firstRow badPair
 returns-2 c = rw (sym (c .before .is-finite .ensures) ∙ not-false _ (c .if1 .left))
 
 pub judged-pair-spec : {M : Type 1} → statement M

@@ -1,12 +1,11 @@
 use borrow.Author.Needs.{needs}
 use Prim.Native.Nat.{_-_, _≤_}
-use mathlib.Core.Path.{_≡_, refl, ap, sym, _∙_}
+use mathlib.Core.Path.{_≡_}
 use native.Mathlib.Omega.{arith}
 use lib.ListN.{replicate}
 use Rattle.loops.specs.Loops.{fill}
 use Rattle.loops.proofs.Laws.{fill-none, fill-next, fill-done}
-use Rattle.stairs.specs.Line.{dot}
-use Rattle.stairs.specs.Staircase.{placeAt, stepAt, stepsTo, noStep}
+use Rattle.stairs.specs.Staircase.{placeAt, stepAt, noStep}
 use Rattle.stairs.proofs.Best.{best-low}
 use Rattle.stairs.proofs.Places.{place-none, place-next, step-is, near, steps-low, stairs-are}
 use Rattle.stairs.proofs.climb.staircase.Statement.{statement}

@@ -1,7 +1,5 @@
 use mir.Syntax.{w32}
 use mir.ValLaws.{toZ-ofZ}
-use mathlib.Core.Path.{_≡_, refl, ap, sym, _∙_}
-use native.Mathlib.Omega.{arith}
 use Rattle.stairs.specs.Staircase.{stepAlong}
 use borrow.Author.Needs.{needs}
 use Rattle.stairs.proofs.climb.step_along.Statement.{statement}

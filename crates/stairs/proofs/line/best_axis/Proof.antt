@@ -1,4 +1,4 @@
-use mathlib.Core.Path.{_≡_, refl, ap, sym, _∙_}
+use mathlib.Core.Path.{_≡_, sym, _∙_}
 use mathlib.Core.Logic.{⊎-elim}
 use Rattle.stairs.proofs.Best.{nearerOf, noneFound, nearer-left, nearer-none, best-of}
 use borrow.Author.Needs.{needs}

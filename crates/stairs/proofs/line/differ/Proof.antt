@@ -1,6 +1,5 @@
 use mir.Syntax.{w32}
 use mir.ValLaws.{toZ-ofZ}
-use mathlib.Core.Path.{_≡_, refl, ap, sym, _∙_}
 use Rattle.stairs.specs.Staircase.{differs}
 use Rattle.stairs.proofs.line.differ.Statement.{statement}
 use Rattle.stairs.proofs.line.differ.Tie as tie

@@ -1,7 +1,6 @@
 use mir.Syntax.{w32}
 use mir.ValLaws.{toZ-ofZ}
 use Rattle.stairs.specs.Staircase.{steppedTo}
-use mathlib.Core.Path.{_≡_, refl, ap, sym, _∙_}
 use borrow.Author.Needs.{needs}
 use Rattle.stairs.proofs.line.moved.Statement.{statement}
 use Rattle.stairs.proofs.line.moved.Tie as tie

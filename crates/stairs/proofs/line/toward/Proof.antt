@@ -1,6 +1,5 @@
 use mir.Syntax.{w32}
 use mir.ValLaws.{toZ-ofZ}
-use mathlib.Core.Path.{_≡_, refl, ap, sym, _∙_}
 use native.Mathlib.Omega.{arith}
 use Rattle.stairs.proofs.Whole.{moved-near, small-fits}
 use borrow.Author.Needs.{needs}

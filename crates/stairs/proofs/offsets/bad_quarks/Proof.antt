@@ -1,4 +1,3 @@
-use mathlib.Core.Path.{_≡_, refl, ap, sym, _∙_}
 use Rattle.stairs.specs.Offsets.{badQuarks}
 use borrow.Author.Needs.{needs}
 use Rattle.stairs.proofs.offsets.bad_quarks.Statement.{statement}

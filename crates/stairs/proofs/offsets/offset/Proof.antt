@@ -1,6 +1,5 @@
 use mir.Syntax.{w32}
 use mir.ValLaws.{toZ-ofZ}
-use mathlib.Core.Path.{_≡_, refl, ap, sym, _∙_}
 use Prim.Native.Nat.{_+_, _*_}
 use lib.IntN.{pos}
 use lib.ListN.{getD}

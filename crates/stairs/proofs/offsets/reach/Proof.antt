@@ -1,9 +1,7 @@
 use mir.Syntax.{w32}
 use mir.ValLaws.{toZ-ofZ}
-use mathlib.Core.Path.{_≡_, refl, ap, sym, _∙_}
 use lib.IntN.{negℤ}
 use Rattle.stairs.proofs.Whole.{plain-fits, neg-fits, less-none, neg-cast, pos-cast, neg-reach}
-use borrow.Author.Needs.{needs}
 use Rattle.stairs.proofs.offsets.reach.Statement.{statement}
 use Rattle.stairs.proofs.offsets.reach.Tie as tie
 
