@@ -2,8 +2,8 @@ use borrow.Author.Needs.{needs}
 use Prim.Native.Nat.{_≤_, _-_}
 use mathlib.Core.Path.{_≡_}
 use lib.ListN.{length}
-use Rattle.replay.proofs.sweep_lines.half_sweeps.Statement.{statement}
-use Rattle.replay.proofs.sweep_lines.half_sweeps.Tie as tie
+use Rattle.lines.proofs.sweep_lines.half_sweeps.Statement.{statement}
+use Rattle.lines.proofs.sweep_lines.half_sweeps.Tie as tie
 
 abbrev Inv-loop : tie.InvT-loop
 Inv-loop links₀ next₀ n₀ links next n = (n ≤ 8) × (length links ≡ length links₀)

@@ -1,7 +1,7 @@
 use borrow.Author.Needs.{needs}
 use mathlib.Core.Path.{_∙_}
-use Rattle.replay.proofs.lattice_lines.Statement.{statement}
-use Rattle.replay.proofs.lattice_lines.Tie as tie
+use Rattle.lines.proofs.lattice_lines.Statement.{statement}
+use Rattle.lines.proofs.lattice_lines.Tie as tie
 
 same-length : tie.Need-same-length
 same-length c =

@@ -1,7 +1,7 @@
 use borrow.Author.Needs.{needs}
 use Prim.Native.Nat.{_≤_, _-_}
-use Rattle.replay.proofs.arithmetic.over_pairs.Statement.{statement}
-use Rattle.replay.proofs.arithmetic.over_pairs.Tie as tie
+use Rattle.lines.proofs.arithmetic.over_pairs.Statement.{statement}
+use Rattle.lines.proofs.arithmetic.over_pairs.Tie as tie
 
 abbrev Inv-loop : tie.InvT-loop
 Inv-loop set call h₀ i₀ h i = i ≤ 400

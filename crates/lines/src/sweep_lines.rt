@@ -1,6 +1,6 @@
+use crate::field_lines::fill;
+use crate::field_lines::over_links;
 use lattice::Plan;
-use lines::field_lines::fill;
-use lines::field_lines::over_links;
 use mat::Su3;
 use sample::hash::Fnv;
 use sample::inputs::Kind;
