@@ -16,7 +16,7 @@ ghost use Rattle.rows.specs.Rows.{firstRow};
 ghost use Rattle.field_judges.specs.Situations.{badPair};
 ghost use Rattle.lattice.specs.Answers.{polyakovAnswer, plaquetteCall, stapleCall, AverageCall, ActionCall, polyakovCall};
 
-// A complex number as an answer.
+// A complex number as an answer: row 10 where one of its parts isn't finite.
 fn judged_pair(z: C64) -> PolyakovAnswer
     ensures { λ r. ⌜ r ≡ polyakovAnswer (firstRow ((badPair z, 10) ∷ [])) z ⌝ }
 {
