@@ -120,7 +120,7 @@ pub const PLAQUETTE: Call = Call {
     takes: &[Extents, Links, Site, Direction, Other],
     width: 18,
     rattle: |a| numbers(face::plaquette(&a.ext, a.site, [a.mu, a.nu], a.links)),
-    rust: |a, lattice| judged(&flat::numbers(&lattice.plaquette(a.site, a.mu, a.nu))),
+    rust: |a, lattice| checked(&flat::numbers(&lattice.plaquette(a.site, a.mu, a.nu))),
     keeps: None,
     writes: None,
 };
@@ -130,7 +130,7 @@ pub const STAPLE: Call = Call {
     takes: &[Extents, Coupling, Links, Site, Direction],
     width: 18,
     rattle: |a| numbers(face::staple(&a.ext, a.coupling, a.site, a.mu, a.links)),
-    rust: |a, lattice| judged(&flat::numbers(&lattice.staple(a.site, a.mu))),
+    rust: |a, lattice| checked(&flat::numbers(&lattice.staple(a.site, a.mu))),
     keeps: None,
     writes: None,
 };
@@ -144,7 +144,7 @@ pub const AVERAGE_PLAQUETTE: Call = Call {
     takes: &[Extents, Links],
     width: 1,
     rattle: |a| numbers(face::average_plaquette(&a.ext, a.links)),
-    rust: |_, lattice| judged(&[lattice.average_plaquette()]),
+    rust: |_, lattice| checked(&[lattice.average_plaquette()]),
     keeps: None,
     writes: None,
 };
@@ -154,7 +154,7 @@ pub const ACTION: Call = Call {
     takes: &[Extents, Coupling, Links],
     width: 1,
     rattle: |a| numbers(face::action(&a.ext, a.coupling, a.links)),
-    rust: |_, lattice| judged(&[lattice.action()]),
+    rust: |_, lattice| checked(&[lattice.action()]),
     keeps: None,
     writes: None,
 };
@@ -166,7 +166,7 @@ pub const POLYAKOV_LOOP: Call = Call {
     rattle: |a| numbers(face::polyakov_loop(&a.ext, a.links)),
     rust: |_, lattice| {
         let mean = lattice.polyakov_loop();
-        judged(&[mean.re, mean.im])
+        checked(&[mean.re, mean.im])
     },
     keeps: None,
     writes: None,
@@ -258,8 +258,8 @@ fn numbers<const N: usize>((refusal, numbers): (u32, [f64; N])) -> Words {
     answer(refusal, numbers.map(bits))
 }
 
-/// Numbers of the reference's, which row 10 judges.
-pub fn judged<const N: usize>(numbers: &[f64; N]) -> Words {
+/// Numbers of the reference's, which row 10 checks.
+pub fn checked<const N: usize>(numbers: &[f64; N]) -> Words {
     if rows::not_finite(numbers) {
         refused(10, N)
     } else {
@@ -267,7 +267,7 @@ pub fn judged<const N: usize>(numbers: &[f64; N]) -> Words {
     }
 }
 
-/// The answer of a call that stores these numbers, which row 10 judges.
+/// The answer of a call that stores these numbers, which row 10 checks.
 fn stored(numbers: &[f64]) -> Words {
     let refused = rows::not_finite(numbers);
     answer(if refused { 10 } else { 0 }, [])

@@ -141,7 +141,7 @@ fn group(rng: &mut Rng) -> Su3 {
     link
 }
 
-/// Near the identity: a tenth of a raw matrix is added to it.
+/// Neighbours the identity: a tenth of a raw matrix is added to it.
 fn smooth(rng: &mut Rng) -> Mat {
     let mut link = Su3::IDENTITY + flat::matrix(&raw(rng)).scale(0.1);
     link.reunitarize();

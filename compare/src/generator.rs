@@ -66,7 +66,7 @@ fn from_state(tally: &mut Tally, state: State) {
     draws(tally, &mut Rng::of_state(state));
 }
 
-/// Draws from the state where the reference stands each time, so that each call is judged alone.
+/// Draws from the state where the reference stands each time, so that each call is checked alone.
 fn draws(tally: &mut Tally, rng: &mut Rng) {
     for _ in 0..3 {
         let before = rng.state();

@@ -42,7 +42,7 @@ impl Ground {
         }
     }
 
-    /// Makes the call and judges it by the rows and the reference. The lists are then as before.
+    /// Makes the call and checks it by the rows and the reference. The lists are then as before.
     pub fn check(&mut self, tally: &mut Tally, call: &Call, a: &Arguments, lent: &Lent) {
         let rust = call.expected(a, &mut self.lattice);
         self.hold(tally, call, a, lent, rust);
@@ -61,7 +61,7 @@ impl Ground {
         self.settle(tally, call, a, lent, rust, written);
     }
 
-    /// The same by what is known of the second list: the numbers to be stored, which row 10 judges.
+    /// The same by what is known of the second list: the numbers to be stored, which row 10 checks.
     /// The other arguments are good.
     pub fn fill(
         &self,

@@ -102,12 +102,12 @@ pub const CALLS: [Call; 21] = [
     },
     Call {
         name: "jj_sub_block",
-        rattle: |p| judged(face::sub_block(&p.a, p.subgroup)),
+        rattle: |p| checked(face::sub_block(&p.a, p.subgroup)),
         rust: rust_sub_block,
     },
     Call {
         name: "jj_left_mul_sub",
-        rattle: |p| judged(face::left_mul_sub(&p.a, p.subgroup, block(&p.b))),
+        rattle: |p| checked(face::left_mul_sub(&p.a, p.subgroup, block(&p.b))),
         rust: rust_left_mul_sub,
     },
     Call {
@@ -200,7 +200,7 @@ fn of_complex(c: C64) -> Words {
     words(&[c.re, c.im])
 }
 
-fn judged<const N: usize>((refusal, numbers): (u32, [f64; N])) -> Words {
+fn checked<const N: usize>((refusal, numbers): (u32, [f64; N])) -> Words {
     answer(refusal, numbers.into_iter().map(bits))
 }
 
@@ -211,7 +211,7 @@ fn reunitarized(mut m: Su3) -> Su3 {
 
 fn rust_sub_block(p: &Pair) -> Words {
     match rows::of_subgroup(p.subgroup) {
-        0 => judged((
+        0 => checked((
             0,
             flat::block_numbers(&sub_block(&p.x, SUBGROUPS[p.subgroup])),
         )),
@@ -224,7 +224,7 @@ fn rust_left_mul_sub(p: &Pair) -> Words {
         0 => {
             let mut m = p.x;
             left_mul_sub(&mut m, SUBGROUPS[p.subgroup], &flat::block(block(&p.b)));
-            judged((0, flat::numbers(&m)))
+            checked((0, flat::numbers(&m)))
         }
         row => refused(row, 18),
     }

@@ -23,10 +23,10 @@ pub enum Part {
     Parity,
     Pass,
     Job,
-    /// Of a frame; nothing judges it.
+    /// Of a frame; nothing checks it.
     Size,
     Room,
-    /// Of a smearing; nothing judges it.
+    /// Of a smearing; nothing checks it.
     Rho,
     /// Of the electric field: 0, 1, 2 for x, y, z.
     Axis,
@@ -155,7 +155,7 @@ pub fn refusal(parts: &[Part], a: &Arguments) -> u32 {
     first.map_or(0, |(number, _)| *number)
 }
 
-/// Row 5 for a subgroup, which is all that a call of a matrix is judged by.
+/// Row 5 for a subgroup, which is all that a call of a matrix is checked by.
 pub fn of_subgroup(subgroup: usize) -> u32 {
     if subgroup > 2 { 5 } else { 0 }
 }
@@ -220,7 +220,7 @@ fn passes(parts: &[Part], a: &Arguments) -> bool {
 }
 
 /// A job's visited above half the sites, its stuck above visited, or its direction or parity out of
-/// range. Its pass is not judged.
+/// range. Its pass is not checked.
 fn jobs(parts: &[Part], a: &Arguments) -> bool {
     let job = a.job;
     let counts = || job.visited > a.sites() as u64 / 2 || job.stuck > job.visited;

@@ -136,7 +136,7 @@ fn field(to: &mut String, kind: &Kind, ext: Four) -> std::fmt::Result {
     let lent = Lists::new(links.clone(), vec![]).lend();
     let a = Arguments {
         coupling: COUPLING,
-        ..lent.arguments(ext, links.len(), 0)
+        ..by_ref.arguments(ext, links.len(), 0)
     };
     let sites = || (0..a.sites()).map(|site| Arguments { site, ..a });
     let planes = sites().flat_map(|a| PLANES.map(|[mu, nu]| Arguments { mu, nu, ..a }));

@@ -1,7 +1,7 @@
 //! Accumulators as a host has them: a new one, and then several additions of fields of one kind, with
 //! different extents in time. The unchanged Rust's accumulator goes along.
 
-use crate::calls::{ADD, Added, CORRELATION, Call, MEAN_LOOP, NEW, judged};
+use crate::calls::{ADD, Added, CORRELATION, Call, MEAN_LOOP, NEW, checked};
 use crate::fields::{self, KINDS};
 use crate::flat;
 use crate::gluons;
@@ -107,7 +107,7 @@ impl Run {
         let mut ground = Ground::new([self.number as u64, seed], ext, lists);
         let a = Arguments {
             flux: self.flux,
-            ..lent.adding(ext, count as u32)
+            ..by_ref.adding(ext, count as u32)
         };
         ground.check(tally, &ADD, &a, &lent);
         let Some(added) = Added::new(&a, &ground.lattice).accepted() else {
@@ -129,12 +129,12 @@ impl Run {
             flux: self.flux,
             grid: &lent.grid[..self.grid.len()],
             second: &lent.second[..cells],
-            ..lent.arguments(ext, 0, 0)
+            ..by_ref.arguments(ext, 0, 0)
         };
         let accepted = |call: &Call, a: &Arguments| rows::refusal(call.takes, a) == 0;
         ground.check(tally, &MEAN_LOOP, &a, &lent);
         if accepted(&MEAN_LOOP, &a) {
-            let own = judged(&[self.own.mean_loop()]);
+            let own = checked(&[self.own.mean_loop()]);
             ground.hold(tally, &MEAN_LOOP, &a, &lent, own);
         }
         for number in 0..=self.flux.count as u32 {

@@ -1,6 +1,6 @@
 //! Staircases, paths and loops. A staircase is the first quark's.
 
-use super::{Call, judged, numbers};
+use super::{Call, checked, numbers};
 use crate::face::{self, Offset, Walked};
 use crate::flat;
 use crate::reference::su3::baryon::staircase;
@@ -59,7 +59,7 @@ pub const BARYON_LOOP: Call = Call {
     },
     rust: |a, lattice| {
         let paths = a.flux.quarks().map(staircase);
-        judged(&[lattice.baryon_loop(a.site, &paths, a.flux.length as usize)])
+        checked(&[lattice.baryon_loop(a.site, &paths, a.flux.length as usize)])
     },
     keeps: None,
     writes: None,
@@ -81,7 +81,7 @@ fn walked(((refusal, matrix), [end]): Walked) -> Words {
     answer(refusal, words(&matrix).into_iter().chain([end as u64]))
 }
 
-/// The same of the reference's, which row 10 judges.
+/// The same of the reference's, which row 10 checks.
 fn ended((matrix, end): (Su3, usize)) -> Words {
     let matrix = flat::numbers(&matrix);
     if rows::not_finite(&matrix) {

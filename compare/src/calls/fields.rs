@@ -1,6 +1,6 @@
 //! Smearing, the field strength and the densities.
 
-use super::{Call, judged, numbers, stored};
+use super::{Call, checked, numbers, stored};
 use crate::face;
 use crate::flat;
 use crate::reference::su3::fields::FieldStrength;
@@ -14,7 +14,7 @@ pub const STOUT_LINK: Call = Call {
     takes: &[Extents, Links, Site, Direction, Rho],
     width: 18,
     rattle: |a| numbers(face::stout_link(&a.ext, a.site, a.mu, a.rho, a.links)),
-    rust: |a, lattice| judged(&flat::numbers(&lattice.stout_link(a.site, a.mu, a.rho))),
+    rust: |a, lattice| checked(&flat::numbers(&lattice.stout_link(a.site, a.mu, a.rho))),
     keeps: None,
     writes: None,
 };
@@ -34,7 +34,7 @@ pub const CLOVER_LEAVES: Call = Call {
     takes: &[Extents, Links, Site, Direction, Other],
     width: 18,
     rattle: |a| numbers(face::clover_leaves(&a.ext, a.site, [a.mu, a.nu], a.links)),
-    rust: |a, lattice| judged(&flat::numbers(&lattice.clover_leaves(a.site, a.mu, a.nu))),
+    rust: |a, lattice| checked(&flat::numbers(&lattice.clover_leaves(a.site, a.mu, a.nu))),
     keeps: None,
     writes: None,
 };
@@ -44,7 +44,7 @@ pub const FIELD_STRENGTH_AT: Call = Call {
     takes: &[Extents, Links, Site],
     width: 108,
     rattle: |a| numbers(face::field_strength_at(&a.ext, a.site, a.links)),
-    rust: |a, lattice| judged(&strength_at(lattice, a.site)),
+    rust: |a, lattice| checked(&strength_at(lattice, a.site)),
     keeps: None,
     writes: None,
 };
@@ -117,7 +117,7 @@ fn electric_sq(a: &Arguments, lattice: &Su3Lattice) -> Vec<f64> {
     [x, y, z]
         .into_iter()
         .nth(a.axis)
-        .expect("row 5 has judged it")
+        .expect("row 5 has checked it")
 }
 
 fn strength_at(lattice: &Su3Lattice, site: usize) -> face::Planes {

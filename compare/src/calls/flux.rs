@@ -1,6 +1,6 @@
 //! The accumulator.
 
-use super::{Call, judged, numbers, stored, sum};
+use super::{Call, checked, numbers, stored, sum};
 use crate::face::{self, Accumulator};
 use crate::reference::su3::baryon::FluxAccumulator;
 use crate::reference::su3::lattice::Su3Lattice;
@@ -66,7 +66,7 @@ pub const MEAN_LOOP: Call = Call {
     takes: &[Cells, Offsets, Length, Held, Asked, Sums],
     width: 1,
     rattle: |a| numbers(face::mean_loop(&a.flux.arrays())),
-    rust: |a, _| judged(&[reference(&a.flux, &[]).mean_loop()]),
+    rust: |a, _| checked(&[reference(&a.flux, &[]).mean_loop()]),
     keeps: None,
     writes: None,
 };

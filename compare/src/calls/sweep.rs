@@ -9,7 +9,7 @@ use crate::rows::{self, Arguments};
 use crate::tally::answer;
 use crate::update::{self, Visit};
 
-/// Row 9 comes after all that judge the arguments.
+/// Row 9 comes after all that check the arguments.
 pub const OVERRELAX_LINK: Call = Call {
     name: "jj_overrelax_link",
     takes: &[Extents, Coupling, Links, Site, Direction],

@@ -68,7 +68,7 @@ fn output(file: &Path, pieces: &[&[u8]]) -> Result<String> {
             if number > 0 {
                 sleep(PAUSE);
             }
-            // It fails where the program has ended already: what it wrote by then is judged.
+            // It fails where the program has ended already: what it wrote by then is checked.
             let _ = stdin.write_all(piece);
         }
     }

@@ -59,10 +59,10 @@ impl Field {
 
     /// Good ones: the second list is as long as the call wants it.
     fn arguments(&self, call: &Call) -> Arguments<'_> {
-        let a = self.lent.arguments(self.ext, self.numbers, 0);
+        let a = self.by_ref.arguments(self.ext, self.numbers, 0);
         let each = rows::second(call.takes).expect("a call that fills a list");
         Arguments {
-            second: &self.lent.second[..each * a.sites()],
+            second: &self.by_ref.second[..each * a.sites()],
             ..a
         }
     }

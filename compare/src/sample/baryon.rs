@@ -186,7 +186,7 @@ fn means(to: &mut String, flux: Flux, grid: Vec<f64>) -> Result {
         flux,
         grid: &lent.grid[..2 * CELLS],
         second: &lent.second[..CELLS],
-        ..lent.arguments(ADDED[0], 0, 0)
+        ..by_ref.arguments(ADDED[0], 0, 0)
     };
     let lattice = &mut Su3Lattice::cold(ADDED[0], 0.0, 0);
     writeln!(to, "mean_loop{}", answer(&MEAN_LOOP, &a, lattice))?;

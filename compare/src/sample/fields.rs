@@ -55,7 +55,7 @@ fn field(to: &mut String, kind: &Kind) -> Result {
     let lent = Lists::new(links.clone(), vec![]).lend();
     let a = Arguments {
         rho: RHO,
-        ..lent.arguments(EXTENTS, links.len(), 0)
+        ..by_ref.arguments(EXTENTS, links.len(), 0)
     };
     let sites = || (0..a.sites()).map(|site| Arguments { site, ..a });
     let directions = || sites().flat_map(|a| (0..4).map(move |mu| Arguments { mu, ..a }));

@@ -101,7 +101,7 @@ impl Field {
     /// A frame, accepted where its list is the field's own and whole.
     pub fn frame(&mut self, tally: &mut Tally, run: &mut Run, list: List, size: usize) {
         let (links, refused) = match list {
-            List::Own(n) => (&self.lent.links[..n], n != self.numbers()),
+            List::Own(n) => (&self.by_ref.links[..n], n != self.numbers()),
             List::Other(n) => (&self.other.links[..n], true),
         };
         let (refusal, job) = face::frame_overrelax(run.job, size, links);
@@ -154,7 +154,7 @@ impl Field {
 
     /// How many of the library's numbers are not the lattice's.
     pub fn differing(&self, lattice: &Su3Lattice) -> u64 {
-        let pairs = self.lent.links.iter().zip(flat::links(lattice));
+        let pairs = self.by_ref.links.iter().zip(flat::links(lattice));
         let differ = |(a, b): (&Cell<f64>, f64)| u64::from(a.get().to_bits() != b.to_bits());
         pairs.map(differ).sum()
     }

@@ -1,4 +1,4 @@
-//! Single calls on fields of every kind, each judged by itself: updates of one link, openings with
+//! Single calls on fields of every kind, each checked by itself: updates of one link, openings with
 //! any arguments, frames on any job, those that no opening or frame hands out too.
 
 use super::EXTENTS;

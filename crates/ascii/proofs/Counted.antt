@@ -88,7 +88,7 @@ module _ {at end : ℕ} {old new : List ℕ} (name : List ℕ) (r : ℕ) (out : 
   unfolding decimalText
   decimal-line n small f e =
       let most = twenty n r small f in
-      let long = length-line name (take r out) in
+      let len = length-line name (take r out) in
       (rw (← places-fewest 19 n r (omega arith) f, ← e) laid, omega (arith, laid .next, counts .1))
 
   pub word-line : (n : ℕ) → n < 2 ^ 64 → Fewest 16 16 n r → take r out ≡ digits 16 r n
@@ -96,5 +96,5 @@ module _ {at end : ℕ} {old new : List ℕ} (name : List ℕ) (r : ℕ) (out : 
   unfolding hexText
   word-line n small f e =
       let same = sixteen n r small f in
-      let long = length-line name (take r out) in
+      let len = length-line name (take r out) in
       (subst (λ v. Laid at (textLine name v) old end new) (e ∙ ap (λ k. digits 16 k n) same) laid, omega (arith, laid .next, counts .1))

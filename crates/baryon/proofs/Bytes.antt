@@ -9,7 +9,7 @@ use lib.ListN.{length, getD, drop, replicate, drop-of-length-le, length-map, Lis
 use lib.Seq.{drop-cons}
 use lib.Ieee.{Float}
 use lib.IntN.{ℤ}
-use Rattle.loops.specs.Loops.{fill}
+use Rattle.folds.specs.Folds.{fill}
 use Rattle.geometry.specs.Range.{range}
 use Rattle.geometry.proofs.Range.{fill-front, length-listed, listed-at}
 use Rattle.rows.specs.declared.Count.{Count}

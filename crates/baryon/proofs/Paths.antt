@@ -20,7 +20,7 @@ use Rattle.geometry.specs.Steps.{fwdOf, bwdOf, spotOf}
 use Rattle.geometry.proofs.Shape.{fits-shape}
 use Rattle.links.specs.Field.{Field}
 use Rattle.gauge.specs.Field.{linkOf}
-use Rattle.field_judges.specs.Situations.{badExtents, badLinks, badSite, badMatrix}
+use Rattle.field_checks.specs.Situations.{badExtents, badLinks, badSite, badMatrix}
 use Rattle.stairs.specs.declared.Step.{Step}
 use Rattle.paths.specs.declared.Walked.{Walked}
 use Rattle.paths.specs.Path.{Transporter, stepOf, stepsFrom, pathOf, lineOf, walkedOf}
@@ -41,9 +41,9 @@ accepted t = record { refusal = 0; matrix = t .u; site = t .site }
 refused-walkable : (d : List ℕ) (l : List Float) (w : PathAnswer) → (w .refusal ≡ 0 → ⊥) → Walkable d l w
 refused-walkable d l w ne = record { holds = λ e. absurd (ne e); below = λ e. absurd (ne e) }
 
-passed : (d : List ℕ) → length d ≡ 4 → (long n count : ℕ) → firstRow (walkRows d long n count) ≡ 0 → Shape d × (long ≡ 72 * volume d) × (n < volume d)
+passed : (d : List ℕ) → length d ≡ 4 → (len n count : ℕ) → firstRow (walkRows d len n count) ≡ 0 → Shape d × (len ≡ 72 * volume d) × (n < volume d)
 unfolding badExtents badLinks badSite
-passed d four long n count e =
+passed d four len n count e =
     let first = row-passed _ _ _ e in
     let second = row-passed _ _ _ (first .1) in
     let third = row-passed _ _ _ (second .1) in
@@ -52,7 +52,7 @@ passed d four long n count e =
 pub opened-walkable : (d : List ℕ) → length d ≡ 4 → (n : ℕ) (l : List Float) (count : ℕ) → Walkable d l (openedOf d n (length l) count)
 unfolding openedOf pathAnswer
 opened-walkable d four n l count = record {
-  holds = λ e. let f = passed d four (length l) n count e in record { shape = f .0; long = f .1 };
+  holds = λ e. let f = passed d four (length l) n count e in record { shape = f .0; len = f .1 };
   below = λ e. rw (if-accepted n 0 e) (passed d four (length l) n count e .2);
 }
 
@@ -95,9 +95,9 @@ pub closed-refused : (w : PathAnswer) → (w .refusal ≡ 0 → ⊥) → w ≡ c
 unfolding closedOf
 closed-refused w ne = sym (if-refused _ w (w .refusal) ne)
 
-pub closed-judged : (w : PathAnswer) → w .refusal ≡ 0 → {r : PathAnswer} → r ≡ pathAnswer (firstRow ((badMatrix (w .matrix), 10) ∷ [])) (transporterOf w) → r ≡ closedOf w
+pub closed-checked : (w : PathAnswer) → w .refusal ≡ 0 → {r : PathAnswer} → r ≡ pathAnswer (firstRow ((badMatrix (w .matrix), 10) ∷ [])) (transporterOf w) → r ≡ closedOf w
 unfolding closedOf
-closed-judged w ok e = e ∙ sym (if-accepted _ w ok)
+closed-checked w ok e = e ∙ sym (if-accepted _ w ok)
 
 -- ## the answer
 

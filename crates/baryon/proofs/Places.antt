@@ -7,7 +7,7 @@ use native.Mathlib.Omega.{arith}
 use borrow.Author.Tests.{ltb-false}
 use lib.ListN.{length, drop}
 use lib.IntN.{ℤ}
-use Rattle.loops.specs.Loops.{fill}
+use Rattle.folds.specs.Folds.{fill}
 use Rattle.rows.specs.declared.Count.{Count}
 use Rattle.rows.specs.Rows.{firstRow, ifAccepted}
 use Rattle.rows.specs.Answers.{countOf}

@@ -1,4 +1,4 @@
--- The loop of `baryon::climb::staircase`: what holds at its head, one turn on, and at its end. Nothing here is of the machine but what a walker's value is.
+-- The loop of `baryon::staircases::staircase`: what holds at its head, one turn on, and at its end. Nothing here is of the machine but what a walker's value is.
 use mathlib.Core.Path.{_≡_, refl, sym, ap, _∙_, subst}
 use Prim.Native.Nat.{ℕ, zero, suc, _+_, _≤_, _<_}
 use native.Mathlib.Numerals.{add-one}
@@ -10,8 +10,8 @@ use mir.Val.{Val}
 use denote.Laws.{Is}
 use denote.Steps.{only}
 use denote.Struct.Laws as LL
-use Rattle.loops.specs.Loops.{fill}
-use Rattle.loops.proofs.Laws.{fill-next, fill-done, length-fill}
+use Rattle.folds.specs.Folds.{fill}
+use Rattle.folds.proofs.Laws.{fill-next, fill-done, length-fill}
 use Rattle.rows.specs.Answers.{countOf}
 use Rattle.rows.specs.declared.Count.{Count}
 use Rattle.stairs.specs.declared.Step.{Step}
@@ -79,8 +79,8 @@ pub record Turn (d : List ℤ) (ys₀ : List Step) : Type 0 where
   pub laid : ys ≡ fill (laidAt d ys₀) ys₀ i
 
 module _ {d : List ℤ} {ys₀ : List Step} (t : Turn d ys₀) where
-  pub long : length (t .ys) ≡ length ys₀
-  long = ap length (t .laid) ∙ length-fill (laidAt d ys₀) ys₀ (t .i)
+  pub len : length (t .ys) ≡ length ys₀
+  len = ap length (t .laid) ∙ length-fill (laidAt d ys₀) ys₀ (t .i)
 
   counted : t .w .count ≡ many d ys₀
   counted = ap (λ (w : Stair). w .count) (t .here) ∙ count-same d ys₀ (t .i)
@@ -90,7 +90,7 @@ module _ {d : List ℤ} {ys₀ : List Step} (t : Turn d ys₀) where
   below l = subst (λ (m : ℕ). t .i < m) counted l
 
   pub inside : t .i < many d ys₀ → t .i < length (t .ys)
-  inside l = let a = room-enough d (length ys₀) in let b = long in omega arith
+  inside l = let a = room-enough d (length ys₀) in let b = len in omega arith
 
   pub standing : t .i < many d ys₀ → Reached (t .w .at)
   standing l = subst (λ (w : Stair). Reached (w .at)) (sym (t .here)) (place-near d (length ys₀) (t .i) l)

@@ -11,7 +11,7 @@ use Rattle.rows.specs.Rows.{firstRow, ifAccepted, finally}
 use Rattle.rows.specs.Answers.{IsNumber, IsCount}
 use Rattle.mat.specs.Matrix.{zeroOf}
 use Rattle.gauge.specs.Field.{linkOf}
-use Rattle.field_judges.specs.Situations.{badNumber, badMatrix}
+use Rattle.field_checks.specs.Situations.{badNumber, badMatrix}
 use Rattle.stairs.specs.declared.Step.{Step}
 use Rattle.stairs.specs.Staircase.{stepsTo, staircaseOf, noStep}
 use Rattle.paths.specs.Path.{Transporter, pathOf, lineOf}
@@ -34,8 +34,8 @@ pub record StaircaseCall (o : List ℤ) (old : List Step) (r : Count) (exit : Li
 abbrev pub noSteps : List Step
 noSteps = replicate 96 noStep
 
-abbrev pub StaircaseLent : List ℤ → StairsAnswer → Type 0
-StaircaseLent o r = StaircaseCall o noSteps (r .answer) (r .steps)
+abbrev pub StaircaseByRef : List ℤ → StairsAnswer → Type 0
+StaircaseByRef o r = StaircaseCall o noSteps (r .answer) (r .steps)
 
 -- ## Products of links
 

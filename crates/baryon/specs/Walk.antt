@@ -8,7 +8,7 @@ use Rattle.rows.specs.Rows.{firstRow, ifAccepted}
 use Rattle.mat.specs.Matrix.{identityOf}
 use Rattle.geometry.specs.Radix.{volume}
 use Rattle.gauge.specs.Field.{linkOf, Holds}
-use Rattle.field_judges.specs.Situations.{badMatrix}
+use Rattle.field_checks.specs.Situations.{badMatrix}
 use Rattle.stairs.specs.declared.Step.{Step}
 use Rattle.paths.specs.Path.{Transporter, stepOf}
 use Rattle.baryon.specs.declared.PathAnswer.{PathAnswer}
@@ -24,7 +24,7 @@ abbrev pub transporterOf : PathAnswer → Transporter
 transporterOf w = record { u = w .matrix; site = w .site }
 
 unfoldable pub openedOf : List ℕ → ℕ → ℕ → ℕ → PathAnswer
-openedOf d n long count = pathAnswer (firstRow (walkRows d long n count)) (record { u = identityOf; site = n })
+openedOf d n len count = pathAnswer (firstRow (walkRows d len n count)) (record { u = identityOf; site = n })
 
 unfoldable pub steppedOf : List ℕ → List Float → PathAnswer → Step → PathAnswer
 steppedOf d l w s =

@@ -1,18 +1,18 @@
-// Staircases, paths, and the loop of three quarks: each call judges what it is handed by the rows of
+// Staircases, paths, and the loop of three quarks: each call checks what it is handed by the rows of
 // its table, in order, and answers the row's number or what its definition says.
-mod climb;
-mod judges;
-mod lent;
+mod by_ref;
+mod checks;
 mod quarks;
+mod staircases;
 mod walk;
 
-pub use climb::staircase;
-pub use climb::staircase_codes;
-pub use lent::path_lent;
-pub use lent::staircase_lent;
+pub use by_ref::path_by_ref;
+pub use by_ref::staircase_by_ref;
 use mat::Su3;
 pub use quarks::baryon_loop;
 use rows::Count;
+pub use staircases::staircase;
+pub use staircases::staircase_codes;
 use stairs::Step;
 pub use walk::path;
 pub use walk::path_codes;

@@ -1,13 +1,13 @@
 use crate::PathAnswer;
-use crate::judges::line_row;
-use crate::judges::open_row;
+use crate::checks::line_row;
+use crate::checks::path_row;
 use mat::Su3;
 use stairs::Step;
 ghost use mathlib.Core.Path.{_≡_};
 ghost use mathlib.Core.List.{[], _∷_, map};
 ghost use Rattle.rows.specs.Rows.{firstRow};
 ghost use Rattle.mat.specs.Matrix.{zeroOf};
-ghost use Rattle.field_judges.specs.Situations.{badMatrix};
+ghost use Rattle.field_checks.specs.Situations.{badMatrix};
 ghost use Rattle.baryon.specs.Walk.{Walkable, openedOf, steppedOf, closedOf};
 ghost use Rattle.baryon.specs.Codes.{stepOfCode};
 ghost use Rattle.baryon.specs.Calls.{pathAnswer, pathCall, lineCall};
@@ -23,7 +23,7 @@ fn refused_path(row: u32) -> PathAnswer
 }
 
 // A product and its end as an answer: row 10 where one of the product's numbers isn't finite.
-fn judged_path(u: Su3, site: usize) -> PathAnswer
+fn checked_path(u: Su3, site: usize) -> PathAnswer
     ensures { λ r. ⌜ r ≡ pathAnswer (firstRow ((badMatrix u, 10) ∷ [])) (record { u = u; site = site }) ⌝ }
 {
     if !u.is_finite() {
@@ -37,10 +37,10 @@ fn judged_path(u: Su3, site: usize) -> PathAnswer
 }
 
 // Before the first step.
-fn path_open(extents: [usize; 4], site: usize, long: usize, count: usize) -> PathAnswer
-    ensures { λ r. ⌜ r ≡ openedOf extents site long count ⌝ }
+fn path_open(extents: [usize; 4], site: usize, len: usize, count: usize) -> PathAnswer
+    ensures { λ r. ⌜ r ≡ openedOf extents site len count ⌝ }
 {
-    let row = open_row(extents, long, site, count);
+    let row = path_row(extents, len, site, count);
     if row != 0 {
         return refused_path(row);
     }
@@ -90,7 +90,7 @@ fn path_close(w: PathAnswer) -> PathAnswer
         return w;
     }
     let u = w.matrix;
-    judged_path(u, w.site)
+    checked_path(u, w.site)
 }
 
 // The product of the links along the steps from a site, and where it ends.
@@ -138,5 +138,5 @@ pub fn time_line(extents: [usize; 4], site: usize, t_len: usize, links: &[f64]) 
     let from = steps::spot(extents, site);
     let w = paths::time_line(links, extents, s, from, t_len);
     let end = w.end;
-    judged_path(w.u, end.site)
+    checked_path(w.u, end.site)
 }

@@ -6,7 +6,7 @@ use mathlib.Core.Path.{_≡_}
 use native.Mathlib.Omega.{arith}
 use lib.Ieee.{Float, nan}
 use lib.ListN.{length, getD}
-use Rattle.loops.proofs.Laws.{all-each}
+use Rattle.folds.proofs.Laws.{all-each}
 use Rattle.links.specs.Store.{cellAt, matrixAt}
 use Rattle.links.specs.Field.{placeOf, fieldOf, Sized}
 use Rattle.links.proofs.Laws.{room}

@@ -16,7 +16,7 @@ use lib.Ieee.Nearest.{closest, closest-mono}
 use lib.Ieee.Order.{drop, kept}
 use lib.Ieee.Scale.{finite}
 use borrow.Author.Tests.{ltb-true, eqb-true}
-use Rattle.loops.specs.Loops.{foldTo}
+use Rattle.folds.specs.Folds.{foldTo}
 use Rattle.complex.specs.Rounded.{_⊞_, _⊟_, _⊠_, fzero, fhalf, fthree, inverse}
 use Rattle.bounds.specs.Magnitude.{AtMost, Magnitude, withinTwo}
 use Rattle.bounds.specs.Claims.{MagnitudesAreKept}

@@ -4,7 +4,7 @@ use mathlib.Core.Bool.{Bool, _&&_}
 use mathlib.Core.List.{List}
 use lib.Ieee.{Float, nan, inf, fin, binary64, up, down, neg, le, ofBits}
 use lib.ListN.{length, getD}
-use Rattle.loops.specs.Loops.{allBelow}
+use Rattle.folds.specs.Folds.{allBelow}
 
 -- ## Bounds
 

@@ -1,4 +1,4 @@
-// The cabinet's program: four bytes on standard input are the extents t, x, y, z; the findings on the
+// The cabinet's program: four bytes on standard input are the extents t, x, y, z; the measurements on the
 // cold field go to standard output, a name and a value to a line.
 use libc::STDIN_FILENO;
 use libc::STDOUT_FILENO;
@@ -23,6 +23,6 @@ fn main() {
     let n = io::read_full(STDIN_FILENO, &mut input);
     skip_rest();
     let mut text = [0u8; 320];
-    let k = findings::columns(&input[..n], &mut text);
+    let k = measurements::columns(&input[..n], &mut text);
     io::write_all(STDOUT_FILENO, &text[..k]);
 }

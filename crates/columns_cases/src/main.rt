@@ -60,7 +60,7 @@ fn case(input: &[u8]) {
     }
     io::write_all(1, b"\n");
     let mut text = [0u8; 320];
-    let k = findings::columns(input, &mut text);
+    let k = measurements::columns(input, &mut text);
     io::write_all(1, &text[..k]);
 }
 

@@ -9,7 +9,7 @@ use Rattle.geometry.specs.Range.{range}
 use Rattle.geometry.specs.Radix.{volume, coordsOf, indexOf}
 use Rattle.geometry.specs.Steps.{total, fwdOf, bwdOf, movedOf, parityOf}
 use Rattle.geometry.specs.Order.{sitesOf}
-use Rattle.loops.specs.Loops.{foldTo}
+use Rattle.folds.specs.Folds.{foldTo}
 use Rattle.stairs.specs.Line.{signum, dot, lineDist}
 use Rattle.stairs.specs.Staircase.{differs, steppedTo, leftOf, firstMin, leastOf, bestOf, stepAlong, placeAt, stepAt, stepsTo, staircaseOf}
 use Rattle.baryon.specs.Codes.{codeOf}

@@ -15,11 +15,11 @@ use Rattle.fields.specs.Situations.{badDensityList, badAxis, finiteSix, 
 use Rattle.fields.specs.Calls.{Filled, sixZeros, strengthAnswer}
 
 module _ (d : List ℕ) where
-  pub bad-density-list : {long : ℕ} → (long ≡ volume d → ⊥) → badDensityList d long ≡ true
+  pub bad-density-list : {len : ℕ} → (len ≡ volume d → ⊥) → badDensityList d len ≡ true
   unfolding badDensityList
   bad-density-list h = rw (ne-eqb _ _ h)
 
-  pub good-density-list : {long : ℕ} → long ≡ volume d → badDensityList d long ≡ false
+  pub good-density-list : {len : ℕ} → len ≡ volume d → badDensityList d len ≡ false
   unfolding badDensityList
   good-density-list h = rw (eq-eqb _ _ h)
 

@@ -11,8 +11,8 @@ use lib.Ieee.{Float, nan}
 use lib.Ieee.Scale.{finite}
 use lib.ListN.{length, getD}
 use borrow.Author.Tests.{eq-eqb, ne-eqb}
-use Rattle.loops.specs.Loops.{allBelow}
-use Rattle.loops.proofs.Laws.{all-each, each-all}
+use Rattle.folds.specs.Folds.{allBelow}
+use Rattle.folds.proofs.Laws.{all-each, each-all}
 use Rattle.mat.specs.declared.Su3.{Su3}
 use Rattle.complex.specs.Complex.{finiteEntry}
 use Rattle.mat.specs.Matrix.{ent, finiteMatrix}
@@ -23,7 +23,7 @@ use Rattle.links.proofs.Laws.{link-same, link-other, number-below}
 use Rattle.gauge.specs.Field.{Holds, Link, partOf, listOf}
 use Rattle.gauge.proofs.Lists.{length-list, number-at, list-holds}
 use Rattle.rows.specs.Finite.{finiteNumbers}
-use Rattle.field_judges.proofs.Listed.{same-test}
+use Rattle.field_checks.proofs.Listed.{same-test}
 
 -- ## one matrix for each link
 
@@ -91,8 +91,8 @@ module _ (d : List ℕ) (l : List Float) (holds : Holds d l) (v k : ℕ) (same :
 -- a list of which every link is known by its number
 pub links-by : (d : List ℕ) (l : List Float) (W : Field) → length l ≡ 72 * volume d
     → ((j : ℕ) → j < 4 * volume d → matrixAt l (18 * j) ≡ W (j / volume d) (j % volume d)) → l ≡ listOf d W
-links-by d l W long each =
-    list-holds d l long (λ mu n axis below.
+links-by d l W len each =
+    list-holds d l len (λ mu n axis below.
     let pos : 0 < volume d = omega arith in
     let a : (mu * volume d + n) / volume d ≡ mu = mul-add-div-right pos mu n ∙ rw (div-eq-of-lt below) (add-zero mu) in
     let b : (mu * volume d + n) % volume d ≡ n = mul-add-mod-self-right mu (volume d) n ∙ mod-eq-of-lt below in

@@ -13,8 +13,8 @@ use Rattle.geometry.specs.Range.{range}
 use Rattle.geometry.specs.Radix.{volume}
 use Rattle.links.specs.Field.{Field}
 use Rattle.gauge.specs.Field.{linkOf, listOf}
-use Rattle.field_judges.specs.Rows.{planeRows, fieldSiteRows}
-use Rattle.field_judges.specs.Situations.{badMatrix}
+use Rattle.field_checks.specs.Rows.{planeRows, fieldSiteRows}
+use Rattle.field_checks.specs.Situations.{badMatrix}
 use Rattle.strength.specs.declared.Density.{Density}
 use Rattle.strength.specs.Clover.{cloverOf, strengthsOf}
 use Rattle.strength.specs.Densities.{densityOf}

@@ -1,8 +1,8 @@
-// Smearing, field strength and densities of a field in a lent list: each call judges what it is handed by
+// Smearing, field strength and densities of a field in a lent list: each call checks what it is handed by
 // its rows, in order, and answers the row's number or what its definition says. A list that is
 // filled stays as it was where the call is refused: no number is stored before all are known to be finite.
+mod checks;
 mod densities;
-mod judges;
 mod matrices;
 mod smearing;
 

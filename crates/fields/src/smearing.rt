@@ -1,5 +1,5 @@
-use crate::judges::smear_row;
-use crate::judges::stout_row;
+use crate::checks::smear_row;
+use crate::checks::stout_row;
 use mat::MatrixAnswer;
 use mat::Su3;
 use rows::ListAnswer;
@@ -32,7 +32,7 @@ pub fn stout_link(
         };
     }
     let u = stout::stout_link(links, extents, site, mu, rho, TERMS);
-    field_judges::judged_matrix(u)
+    field_checks::checked_matrix(u)
 }
 
 // Whether every number of the smeared links is finite.

@@ -53,13 +53,13 @@ module _ (W : ℕ → Float) (x : Addition) {row : ℕ} (same : row ≡ inputsRo
   pub added-finished : row ≡ 0 → {new : FluxAccumulator} {s : List Float} → new ≡ addedOf W x → drop (length (x .grid)) s ≡ addedGrid W x → length s ≡ length (x .scratch)
       → {r : FluxAnswer} {grid scratch : List Float} → Finished (x .acc) new (x .grid) s r grid scratch → Added W x r grid scratch
   unfolding addRow
-  added-finished none {new} {s} sums cells long f =
+  added-finished none {new} {s} sums cells len f =
       let tested : sumsRow (x .grid) s (new .w) (new .s) ≡ addRow W x
       = ap₂ (λ (l : List Float) (a : FluxAccumulator). firstRow ((badSums l (a .w) (a .s), 10) ∷ [])) cells sums ∙ last-row same _ none in
       record {
         answer = f .answer ∙ ap₂ (λ (k : ℕ) (a : FluxAccumulator). fluxAnswer k a (x .acc)) tested sums;
         list = f .list ∙ ap₂ (λ (k : ℕ) (l : List Float). ifAccepted k l (x .grid)) tested cells;
-        cleared = list-new _ (sym none ∙ same) (f .cleared ∙ ap (λ (k : ℕ). replicate k fzero) long);
+        cleared = list-new _ (sym none ∙ same) (f .cleared ∙ ap (λ (k : ℕ). replicate k fzero) len);
       }
 
 -- ## correlation

@@ -8,9 +8,9 @@ use native.Mathlib.Omega.{arith}
 use lib.Dec.{eqb}
 use lib.ListN.{length, getD}
 use borrow.Author.Tests.{eqb-true, not-false}
-use Rattle.loops.proofs.Few.{three-are}
-use Rattle.loops.specs.Loops.{allBelow}
-use Rattle.loops.proofs.Laws.{all-each}
+use Rattle.folds.proofs.Few.{three-are}
+use Rattle.folds.specs.Folds.{allBelow}
+use Rattle.folds.proofs.Laws.{all-each}
 use Rattle.geometry.specs.Radix.{volume}
 use Rattle.geometry.specs.Shape.{extentTest}
 use Rattle.geometry.proofs.Shape.{extent-true}

@@ -6,7 +6,7 @@ use mathlib.Core.Path.{_≡_}
 use lib.Ieee.{Float, eq}
 use lib.ListN.{getD}
 use borrow.Author.Tests.{lt-ltb, le-ltb, eq-eqb, ne-eqb}
-use Rattle.loops.specs.Loops.{allBelow}
+use Rattle.folds.specs.Folds.{allBelow}
 use Rattle.complex.specs.Rounded.{fzero}
 use Rattle.geometry.specs.Radix.{volume}
 use Rattle.geometry.specs.Shape.{extentTest}
@@ -27,36 +27,36 @@ module _ (n : List ℕ) where
 
   -- ## row 3
 
-  pub bad-grid-list : (count : ℕ) {long : ℕ} → (long ≡ count * volume n → ⊥) → badGridList n count long ≡ true
+  pub bad-grid-list : (count : ℕ) {len : ℕ} → (len ≡ count * volume n → ⊥) → badGridList n count len ≡ true
   unfolding badGridList
   bad-grid-list count h = rw (ne-eqb _ _ h)
 
-  pub good-grid-list : (count : ℕ) {long : ℕ} → long ≡ count * volume n → badGridList n count long ≡ false
+  pub good-grid-list : (count : ℕ) {len : ℕ} → len ≡ count * volume n → badGridList n count len ≡ false
   unfolding badGridList
   good-grid-list count h = rw (eq-eqb _ _ h)
 
-  pub bad-scratch : (count : ℕ) {long : ℕ} → (long ≡ 2 * (count * volume n) → ⊥) → badScratch n count long ≡ true
+  pub bad-scratch : (count : ℕ) {len : ℕ} → (len ≡ 2 * (count * volume n) → ⊥) → badScratch n count len ≡ true
   unfolding badScratch
   bad-scratch count h = rw (ne-eqb _ _ h)
 
-  pub good-scratch : (count : ℕ) {long : ℕ} → long ≡ 2 * (count * volume n) → badScratch n count long ≡ false
+  pub good-scratch : (count : ℕ) {len : ℕ} → len ≡ 2 * (count * volume n) → badScratch n count len ≡ false
   unfolding badScratch
   good-scratch count h = rw (eq-eqb _ _ h)
 
-  pub bad-correlation : {long : ℕ} → (long ≡ volume n → ⊥) → badCorrelation n long ≡ true
+  pub bad-correlation : {len : ℕ} → (len ≡ volume n → ⊥) → badCorrelation n len ≡ true
   unfolding badCorrelation
   bad-correlation h = rw (ne-eqb _ _ h)
 
-  pub good-correlation : {long : ℕ} → long ≡ volume n → badCorrelation n long ≡ false
+  pub good-correlation : {len : ℕ} → len ≡ volume n → badCorrelation n len ≡ false
   unfolding badCorrelation
   good-correlation h = rw (eq-eqb _ _ h)
 
 module _ (d : List ℕ) (count : ℕ) where
-  pub bad-densities : {long : ℕ} → (long ≡ count * volume d → ⊥) → badDensities d count long ≡ true
+  pub bad-densities : {len : ℕ} → (len ≡ count * volume d → ⊥) → badDensities d count len ≡ true
   unfolding badDensities
   bad-densities h = rw (ne-eqb _ _ h)
 
-  pub good-densities : {long : ℕ} → long ≡ count * volume d → badDensities d count long ≡ false
+  pub good-densities : {len : ℕ} → len ≡ count * volume d → badDensities d count len ≡ false
   unfolding badDensities
   good-densities h = rw (eq-eqb _ _ h)
 

@@ -11,7 +11,7 @@ use Rattle.rows.specs.Rows.{firstRow, ifAccepted, finally}
 use Rattle.rows.specs.Answers.{IsNumber}
 use Rattle.rows.specs.Finite.{badNumbers}
 use Rattle.gauge.specs.Field.{linkOf}
-use Rattle.field_judges.specs.Situations.{badNumber}
+use Rattle.field_checks.specs.Situations.{badNumber}
 use Rattle.contraction.specs.Baryon.{baryonOf}
 use Rattle.sums.specs.Ending.{badSums, zerosLike}
 use Rattle.flux.specs.declared.FluxAccumulator.{FluxAccumulator}

@@ -8,12 +8,12 @@ use lib.ListN.{length, getD, drop}
 use Rattle.geometry.specs.Radix.{volume}
 use Rattle.geometry.specs.Shape.{Extent, Shape}
 use Rattle.rows.specs.Rows.{ifAccepted}
-use Rattle.field_judges.specs.Rows.{RowList}
-use Rattle.field_judges.specs.Situations.{badExtents, badLinks}
+use Rattle.field_checks.specs.Rows.{RowList}
+use Rattle.field_checks.specs.Situations.{badExtents, badLinks}
 use Rattle.stairs.specs.Offsets.{badQuarks, badTime}
 use Rattle.slices.specs.Slices.{places}
 use Rattle.sums.specs.Ending.{zerosLike, sumsRow}
-use Rattle.gather.specs.Parts.{Own}
+use Rattle.gather.specs.Parts.{ParametersFit}
 use Rattle.flux.specs.declared.FluxAccumulator.{FluxAccumulator}
 use Rattle.flux.specs.declared.FluxAnswer.{FluxAnswer}
 use Rattle.flux.specs.Situations.{badGrid, badDensities, badGridList, badScratch, badCount}
@@ -47,7 +47,7 @@ sizeRows d n count links densities grid scratch =
 pub record Sizes (d n : List ℕ) (count links densities grid scratch : ℕ) : Type 0 where
   pub shape : Shape d
   pub extents : Grid n
-  pub long : links ≡ 72 * volume d
+  pub len : links ≡ 72 * volume d
   pub sites : densities ≡ count * volume d
   pub cells : grid ≡ count * volume n
   pub twice : scratch ≡ grid + grid
@@ -57,7 +57,7 @@ pub record Sizes (d n : List ℕ) (count links densities grid scratch : ℕ) : T
 -- an addition; d are the field's extents
 pub record Addable (acc : FluxAccumulator) (d : List ℕ) (count links densities grid scratch : ℕ) : Type 0 where
   pub sizes : Sizes d (acc .n) count links densities grid scratch
-  pub own : Own (acc .offsets) (acc .«t_len») count
+  pub own : ParametersFit (acc .offsets) (acc .«t_len») count
   pub same : volume (acc .n) ≡ places d
 
 -- a correlation: the cells of the k-th density stand in the grid's list

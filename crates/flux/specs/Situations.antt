@@ -1,4 +1,4 @@
--- The situations that these calls add to those of `field_judges` and `stairs`, and each call's rows in the order in which they are tried; row 10 comes after them.
+-- The situations that these calls add to those of `field_checks` and `stairs`, and each call's rows in the order in which they are tried; row 10 comes after them.
 use Prim.Native.Nat.{ℕ, _+_, _*_}
 use mathlib.Core.Bool.{Bool, not, _||_}
 use mathlib.Core.List.{List, [], _∷_}
@@ -6,12 +6,12 @@ use lib.Dec.{ltb, eqb}
 use lib.Ieee.{eq}
 use lib.IntN.{ℤ}
 use lib.ListN.{getD}
-use Rattle.loops.specs.Loops.{allBelow}
+use Rattle.folds.specs.Folds.{allBelow}
 use Rattle.complex.specs.Rounded.{fzero}
 use Rattle.geometry.specs.Radix.{volume}
 use Rattle.geometry.specs.Shape.{extentTest}
-use Rattle.field_judges.specs.Rows.{RowList}
-use Rattle.field_judges.specs.Situations.{badExtents, badLinks}
+use Rattle.field_checks.specs.Rows.{RowList}
+use Rattle.field_checks.specs.Situations.{badExtents, badLinks}
 use Rattle.stairs.specs.Offsets.{badQuarks, badTime}
 use Rattle.flux.specs.declared.FluxAccumulator.{FluxAccumulator}
 use Rattle.flux.specs.Means.{meansOf}
@@ -24,16 +24,16 @@ badGrid n = not (allBelow (λ a. extentTest (getD n a 0)) 3)
 
 -- 3: a list of wrong length: of so many densities, of their grid, of the scratch, of one density's correlation
 unfoldable pub badDensities : List ℕ → ℕ → ℕ → Bool
-badDensities d count long = not (eqb long (count * volume d))
+badDensities d count len = not (eqb len (count * volume d))
 
 unfoldable pub badGridList : List ℕ → ℕ → ℕ → Bool
-badGridList n count long = not (eqb long (count * volume n))
+badGridList n count len = not (eqb len (count * volume n))
 
 unfoldable pub badScratch : List ℕ → ℕ → ℕ → Bool
-badScratch n count long = not (eqb long (2 * (count * volume n)))
+badScratch n count len = not (eqb len (2 * (count * volume n)))
 
 unfoldable pub badCorrelation : List ℕ → ℕ → Bool
-badCorrelation n long = not (eqb long (volume n))
+badCorrelation n len = not (eqb len (volume n))
 
 -- 13: a count of densities that is 0 or above 4, or unlike the one held
 unfoldable pub badCount : ℕ → Bool
@@ -64,9 +64,9 @@ noMeans acc k = eq (meansOf acc k) fzero
 
 -- ## Rows
 
--- new; o are the three offsets, t the time length, long the length of the grid's list
+-- new; o are the three offsets, t the time length, len the length of the grid's list
 abbrev pub newRows : List ℕ → List ℤ → ℕ → ℕ → ℕ → RowList
-newRows n o t count long = (badGrid n, 1) ∷ (badGridList n count long, 3) ∷ (badQuarks o, 11) ∷ (badTime t, 11) ∷ (badCount count, 13) ∷ []
+newRows n o t count len = (badGrid n, 1) ∷ (badGridList n count len, 3) ∷ (badQuarks o, 11) ∷ (badTime t, 11) ∷ (badCount count, 13) ∷ []
 
 -- mean_loop
 abbrev pub meanRows : FluxAccumulator → RowList

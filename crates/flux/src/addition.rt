@@ -1,6 +1,6 @@
 use crate::FluxAccumulator;
 use crate::FluxAnswer;
-use crate::judges::add_row;
+use crate::checks::add_row;
 ghost use mathlib.Core.Path.{_≡_};
 ghost use Prim.Native.Nat.{_+_};
 ghost use lib.ListN.{length};

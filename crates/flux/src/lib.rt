@@ -1,9 +1,9 @@
-// The accumulator of loops, densities and their products: each call judges what it is handed by the rows
+// The accumulator of loops, densities and their products: each call checks what it is handed by the rows
 // of its table, in order, and answers the row's number or what its definition says. The grid's numbers
 // and the scratch are lent; a refused call stores nothing, except that an addition that fails at row 10
 // leaves its scratch at +0.
 mod addition;
-mod judges;
+mod checks;
 mod means;
 mod start;
 

@@ -1,6 +1,6 @@
 use crate::FluxAccumulator;
-use crate::judges::correlation_row;
-use crate::judges::mean_row;
+use crate::checks::correlation_row;
+use crate::checks::mean_row;
 use rows::ListAnswer;
 use rows::Number;
 use sums::mean;
@@ -15,7 +15,7 @@ impl FluxAccumulator {
         if row != 0 {
             return Number::Refused(row);
         }
-        field_judges::judged_number(mean(self.w, self.samples))
+        field_checks::checked_number(mean(self.w, self.samples))
     }
 
     // The correlation of the loop with the k-th density at every offset: first every number is tested, and

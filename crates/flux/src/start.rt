@@ -1,6 +1,6 @@
 use crate::FluxAccumulator;
 use crate::FluxAnswer;
-use crate::judges::new_row;
+use crate::checks::new_row;
 ghost use mathlib.Core.Path.{_≡_};
 ghost use Rattle.flux.specs.Calls.{emptyAcc, NewCall};
 

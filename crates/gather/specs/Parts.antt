@@ -15,7 +15,7 @@ use Rattle.slices.specs.Slices.{places, gridOf, loopsOf}
 use Rattle.slices.specs.Parts.{Densities}
 
 -- offsets, time length and count of densities in range
-pub record Own (o : List ℤ) (t count : ℕ) : Type 0 where
+pub record ParametersFit (o : List ℤ) (t count : ℕ) : Type 0 where
   pub quarks : badQuarks o ≡ false
   pub time : t ≤ 64
   pub some : 0 < count
@@ -34,7 +34,7 @@ pub record Slice (s l : List Float) (d u : List ℕ) (t : ℕ) (a b c : Stairs) 
 pub record Gathering (s l dens : List Float) (d : List ℕ) (o : List ℤ) (t count : ℕ) : Type 0 where
   pub holds : Holds d l
   pub densities : Densities dens d count
-  pub own : Own o t count
+  pub own : ParametersFit o t count
   pub twice : length s ≡ count * places d + count * places d
 
 -- for any loop value W at each site: w is the loops' sum before, r after; the grid stands in the second half

@@ -1,10 +1,10 @@
 // The loop over a field's slices of equal time, for an accumulator: the loops of three quarks at each site,
-// their sum, and the sums of their products with the densities. What is asked for a caller has judged.
+// their sum, and the sums of their products with the densities. What is asked for a caller has checked.
 use stairs::Stairs;
 ghost use mathlib.Core.Path.{_≡_};
 ghost use Prim.Native.Nat.{_+_, _*_};
 ghost use lib.ListN.{getD};
-ghost use Rattle.loops.specs.Loops.{fill};
+ghost use Rattle.folds.specs.Folds.{fill};
 ghost use Rattle.gauge.specs.Field.{linkOf};
 ghost use Rattle.paths.specs.Path.{taken};
 ghost use Rattle.contraction.specs.Baryon.{loopOf, baryonOf};

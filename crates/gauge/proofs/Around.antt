@@ -13,8 +13,8 @@ use Rattle.mat.specs.declared.Su3.{Su3}
 use Rattle.mat.specs.Matrix.{zeroOf, addOf}
 use Rattle.geometry.specs.Radix.{volume}
 use Rattle.geometry.specs.Shape.{Shape}
-use Rattle.geometry.specs.declared.Near.{Near}
-use Rattle.geometry.specs.Steps.{fwdOf, nearOf}
+use Rattle.geometry.specs.declared.Neighbours.{Neighbours}
+use Rattle.geometry.specs.Steps.{fwdOf, neighboursOf}
 use Rattle.geometry.proofs.Shape.{volume-high}
 use Rattle.geometry.proofs.Neighbour.{near-up, near-down, up-down}
 use Rattle.links.specs.Field.{Field}
@@ -31,17 +31,17 @@ staplesBy U mu n f up down (suc nu) =
     (lowerAt U mu nu (getD down nu 0) (f + getD down nu 0 - n)))
 
 module _ (d : List ℕ) (shape : Shape d) (U : Field) (n mu : ℕ) (here : n < volume d) (axis : mu < 4) where
-  staples-by : (k : ℕ) → k ≤ 4 → staplesBy U mu n (fwdOf d n mu) (nearOf d n .up) (nearOf d n .down) k ≡ staplesTo d U n mu k
+  staples-by : (k : ℕ) → k ≤ 4 → staplesBy U mu n (fwdOf d n mu) (neighboursOf d n .up) (neighboursOf d n .down) k ≡ staplesTo d U n mu k
   unfolding staplesBy staplesTo addStaples
   staples-by zero h = refl
   staples-by (suc nu) h = go (staples-by nu (omega arith)) (ℕ-discrete nu mu)
     where
-      go : staplesBy U mu n (fwdOf d n mu) (nearOf d n .up) (nearOf d n .down) nu ≡ staplesTo d U n mu nu → Dec (nu ≡ mu)
-          → staplesBy U mu n (fwdOf d n mu) (nearOf d n .up) (nearOf d n .down) (suc nu) ≡ staplesTo d U n mu (suc nu)
+      go : staplesBy U mu n (fwdOf d n mu) (neighboursOf d n .up) (neighboursOf d n .down) nu ≡ staplesTo d U n mu nu → Dec (nu ≡ mu)
+          → staplesBy U mu n (fwdOf d n mu) (neighboursOf d n .up) (neighboursOf d n .down) (suc nu) ≡ staplesTo d U n mu (suc nu)
       go ih (yes e) = rw (eq-eqb nu mu e) ih
       go ih (no e) = rw (ne-eqb nu mu e, ih, near-up d n nu h, near-down d n nu h, up-down d shape n mu nu here axis h e .is)
 
-  pub staple-by : (k : ℕ) → k ≡ 4 → staplesBy U mu n (fwdOf d n mu) (nearOf d n .up) (nearOf d n .down) k ≡ stapleOf d U n mu
+  pub staple-by : (k : ℕ) → k ≡ 4 → staplesBy U mu n (fwdOf d n mu) (neighboursOf d n .up) (neighboursOf d n .down) k ≡ stapleOf d U n mu
   unfolding stapleOf
   staple-by k e = rw e (staples-by 4 (omega arith))
 
@@ -52,7 +52,7 @@ pub record Beside (l : List Float) (v mu nu n f u b : ℕ) : Type 0 where
   pub low : n ≤ f + b
   pub sites : StapleSites l v mu nu n f u b (f + b - n)
 
-pub beside : {d : List ℕ} {l : List Float} {n mu nu v : ℕ} {near : Near} → Link d l n mu → nu < 4 → (nu ≡ mu → ⊥) → near ≡ nearOf d n → v ≡ volume d
+pub beside : {d : List ℕ} {l : List Float} {n mu nu v : ℕ} {near : Neighbours} → Link d l n mu → nu < 4 → (nu ≡ mu → ⊥) → near ≡ neighboursOf d n → v ≡ volume d
     → Beside l v mu nu n (getD (near .up) mu 0) (getD (near .up) nu 0) (getD (near .down) nu 0)
 beside {d} {l} {n} {mu} {nu} q h ne sides sites =
     let k = ring d l (q .holds) n mu nu (q .below) (q .axis) h ne in

@@ -5,7 +5,7 @@ use mathlib.Core.Path.{_≡_}
 use lib.Ieee.{Float}
 use lib.ListN.{getD}
 use Rattle.geometry.specs.Radix.{volume}
-use Rattle.geometry.specs.Steps.{fwdOf, bwdOf, nearOf}
+use Rattle.geometry.specs.Steps.{fwdOf, bwdOf, neighboursOf}
 use Rattle.geometry.proofs.Shape.{volume-high}
 use Rattle.geometry.proofs.Neighbour.{fwd-below, bwd-below, near-up, up-down}
 use Rattle.links.specs.Field.{Sized}
@@ -18,7 +18,7 @@ use Rattle.gauge.specs.Staple.{StapleSites}
 
 module _ (d : List ℕ) (l : List Float) (holds : Holds d l) where
   pub sized : Sized l (volume d)
-  sized = record { long = holds .long; small = volume-high d (holds .shape) }
+  sized = record { len = holds .len; small = volume-high d (holds .shape) }
 
   module _ (n mu nu : ℕ) (here : n < volume d) (axis : mu < 4) (other : nu < 4) where
     pub corners : Corners l (volume d) mu nu n (fwdOf d n mu) (fwdOf d n nu)
@@ -50,5 +50,5 @@ pub planes-are : (d : List ℕ) (U : Field) (n t x y z : ℕ) → t ≡ fwdOf d 
 unfolding planesSum plaquetteOf
 planes-are d U n t x y z a b c e = rw (a, b, c, e)
 
-pub up-at : (d : List ℕ) (n : ℕ) {up : List ℕ} → up ≡ nearOf d n .up → (mu : ℕ) → mu < 4 → getD up mu 0 ≡ fwdOf d n mu
+pub up-at : (d : List ℕ) (n : ℕ) {up : List ℕ} → up ≡ neighboursOf d n .up → (mu : ℕ) → mu < 4 → getD up mu 0 ≡ fwdOf d n mu
 up-at d n e mu h = rw e (near-up d n mu h)

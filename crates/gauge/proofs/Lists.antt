@@ -68,8 +68,8 @@ module _ (d : List ℕ) where
       ∙ sym (number-at W k g))
 
   pub list-is : (l : List Float) → length l ≡ 72 * volume d → l ≡ listOf d (linkOf d l)
-  list-is l long =
-      ext-getD nan l (listOf d (linkOf d l)) (long ∙ sym (length-list (linkOf d l)))
+  list-is l len =
+      ext-getD nan l (listOf d (linkOf d l)) (len ∙ sym (length-list (linkOf d l)))
       (λ k h. let g : k < 72 * volume d = omega arith in
       let q = div-add-mod' (k / 18) (volume d) in
       let e : placeOf (volume d) (k / 18 / volume d) (k / 18 % volume d) + k % 18 ≡ k = omega (arith, q) in
@@ -79,7 +79,7 @@ module _ (d : List ℕ) where
 
   -- a list of the right length that holds U
   pub list-holds : (l : List Float) {U : Field} → length l ≡ 72 * volume d → Same d (linkOf d l) U → l ≡ listOf d U
-  list-holds l long same = list-is l long ∙ list-same same
+  list-holds l len same = list-is l len ∙ list-same same
 
   -- and the field that the list of U holds is U, where its matrices have nine entries
   module _ (U : Field) (mu n : ℕ) (axis : mu < 4) (below : n < volume d) where

@@ -1,8 +1,8 @@
 -- One turn of the loop over an entry on the diagonal of x·y†, where x and y are products themselves.
 use Prim.Native.Nat.{ℕ, _+_, _<_}
 use mathlib.Core.Path.{_≡_}
-use Rattle.loops.specs.Loops.{foldTo}
-use Rattle.loops.proofs.Laws.{fold-next}
+use Rattle.folds.specs.Folds.{foldTo}
+use Rattle.folds.proofs.Laws.{fold-next}
 use Rattle.complex.specs.declared.C64.{C64}
 use Rattle.mat.specs.declared.Su3.{Su3}
 use Rattle.complex.specs.Complex.{cadd, cmul, conjOf, czero}

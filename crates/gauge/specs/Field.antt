@@ -33,7 +33,7 @@ pub record ListIsField : Type 0 where
 -- a list that holds a field of these extents
 pub record Holds (d : List ℕ) (l : List Float) : Type 0 where
   pub shape : Shape d
-  pub long : length l ≡ 72 * volume d
+  pub len : length l ≡ 72 * volume d
 
 -- and a link of it
 pub record Link (d : List ℕ) (l : List Float) (n mu : ℕ) : Type 0 where

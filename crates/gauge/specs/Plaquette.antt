@@ -2,7 +2,7 @@
 use Prim.Native.Nat.{ℕ, _<_}
 use mathlib.Core.List.{List}
 use lib.Ieee.{Float, binary64, add, div, ofBits}
-use Rattle.loops.specs.Loops.{foldTo}
+use Rattle.folds.specs.Folds.{foldTo}
 use Rattle.mat.specs.declared.Su3.{Su3}
 use Rattle.complex.specs.Rounded.{_⊞_, _⊟_, _⊠_, fzero, fone, fthree, asFloat}
 use Rattle.mat.specs.Matrix.{reTr}

@@ -5,7 +5,7 @@ ghost use Prim.Native.Nat.{_<_};
 ghost use Rattle.complex.specs.Rounded.{_⊞_};
 ghost use Rattle.mat.specs.Matrix.{reTr};
 ghost use Rattle.geometry.specs.Radix.{volume};
-ghost use Rattle.geometry.specs.Steps.{nearOf};
+ghost use Rattle.geometry.specs.Steps.{neighboursOf};
 ghost use Rattle.links.specs.Field.{fieldOf};
 ghost use Rattle.links.specs.Store.{TwoMatrices};
 ghost use Rattle.gauge.specs.Field.{linkOf, Holds, Plane};
@@ -99,7 +99,7 @@ fn trace(links: &[f64], v: usize, mu: usize, nu: usize, n: usize, f: usize, g: u
 
 // The sum of the six traces at a site; up has the next sites along the axes.
 fn planes_sum(links: &[f64], d: [usize; 4], v: usize, n: usize, up: [usize; 4]) -> f64
-    requires { ⌜ Holds d (now links) × (v ≡ volume d) × (n < v) × (up ≡ nearOf d n .up) ⌝ }
+    requires { ⌜ Holds d (now links) × (v ≡ volume d) × (n < v) × (up ≡ neighboursOf d n .up) ⌝ }
     ensures { λ r. ⌜ r ≡ planesSum d (linkOf d (now (links .entry))) n ⌝ }
 {
     let t = up[0];

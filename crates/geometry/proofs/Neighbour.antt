@@ -6,7 +6,7 @@ use native.Mathlib.Omega.{arith}
 use lib.ListN.{length, getD}
 use Rattle.geometry.specs.Radix.{volume}
 use Rattle.geometry.specs.Shape.{Shape}
-use Rattle.geometry.specs.Steps.{movedOf, fwdOf, bwdOf, nearOf, parityOf}
+use Rattle.geometry.specs.Steps.{movedOf, fwdOf, bwdOf, neighboursOf, parityOf}
 use Rattle.geometry.proofs.Range.{listed-at}
 use Rattle.geometry.proofs.Shape.{volume-pos, axis-in}
 use Rattle.geometry.proofs.Steps.{coord-below, moved-below, moved-moved, moved-flips, moved-around}
@@ -52,12 +52,12 @@ module _ (d : List ℕ) (shape : Shape d) (n mu : ℕ) (axis : mu < 4) where
 
 -- ## all eight at once
 
-pub near-up : (d : List ℕ) (n mu : ℕ) → mu < 4 → getD (nearOf d n .up) mu 0 ≡ fwdOf d n mu
-unfolding nearOf
+pub near-up : (d : List ℕ) (n mu : ℕ) → mu < 4 → getD (neighboursOf d n .up) mu 0 ≡ fwdOf d n mu
+unfolding neighboursOf
 near-up d n mu h = listed-at (fwdOf d n) 0 4 mu h
 
-pub near-down : (d : List ℕ) (n mu : ℕ) → mu < 4 → getD (nearOf d n .down) mu 0 ≡ bwdOf d n mu
-unfolding nearOf
+pub near-down : (d : List ℕ) (n mu : ℕ) → mu < 4 → getD (neighboursOf d n .down) mu 0 ≡ bwdOf d n mu
+unfolding neighboursOf
 near-down d n mu h = listed-at (bwdOf d n) 0 4 mu h
 
 -- ## corners

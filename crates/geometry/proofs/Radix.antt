@@ -24,23 +24,23 @@ right-pos a (suc b) h = omega arith
 -- ## coordinates below their extents
 
 more : {e c : ℕ} {d cs : List ℕ} → c < e → Within d cs → Within (e ∷ d) (c ∷ cs)
-more {e} {c} {d} {cs} h w = record { long = ap suc (w .long); each = go }
+more {e} {c} {d} {cs} h w = record { len = ap suc (w .len); each = go }
   where
     go : (mu : ℕ) → mu < length (e ∷ d) → getD (c ∷ cs) mu 0 < getD (e ∷ d) mu 0
     go zero g = h
     go (suc mu) g = w .each mu (omega arith)
 
 rest : {e c : ℕ} {d cs : List ℕ} → Within (e ∷ d) (c ∷ cs) → Within d cs
-rest w = record { long = omega (arith, w .long); each = λ mu h. w .each (suc mu) (omega arith) }
+rest w = record { len = omega (arith, w .len); each = λ mu h. w .each (suc mu) (omega arith) }
 
 pub coords-within : (d : List ℕ) (n : ℕ) → 0 < volume d → Within d (coordsOf d n)
 unfolding coordsOf volume
-coords-within [] n h = record { long = refl; each = λ mu g. absurd (omega arith) }
+coords-within [] n h = record { len = refl; each = λ mu g. absurd (omega arith) }
 coords-within (e ∷ d) n h = more (mod-lt n (left-pos e (volume d) h)) (coords-within d (n / e) (right-pos e (volume d) h))
 
 pub within-set : (d cs : List ℕ) (mu v : ℕ) → Within d cs → v < getD d mu 0 → Within d (set cs mu v)
 within-set [] cs mu v w h = absurd (omega arith)
-within-set (e ∷ d) [] mu v w h = absurd (omega (arith, w .long))
+within-set (e ∷ d) [] mu v w h = absurd (omega (arith, w .len))
 within-set (e ∷ d) (c ∷ cs) zero v w h = more h (rest w)
 within-set (e ∷ d) (c ∷ cs) (suc mu) v w h = more (w .each 0 (omega arith)) (within-set d cs mu v (rest w) h)
 
@@ -49,14 +49,14 @@ within-set (e ∷ d) (c ∷ cs) (suc mu) v w h = more (w .each 0 (omega arith)) 
 pub index-below : (d cs : List ℕ) → Within d cs → indexOf d cs < volume d
 unfolding indexOf volume
 index-below [] cs w = omega arith
-index-below (e ∷ d) [] w = absurd (omega (arith, w .long))
+index-below (e ∷ d) [] w = absurd (omega (arith, w .len))
 index-below (e ∷ d) (c ∷ cs) w = omega (arith, w .each 0 (omega arith), mul-le-mul-left e (index-below d cs (rest w)))
 
 pub coords-index : (d cs : List ℕ) → Within d cs → coordsOf d (indexOf d cs) ≡ cs
 unfolding indexOf coordsOf
 coords-index [] [] w = refl
-coords-index [] (c ∷ cs) w = absurd (omega (arith, w .long))
-coords-index (e ∷ d) [] w = absurd (omega (arith, w .long))
+coords-index [] (c ∷ cs) w = absurd (omega (arith, w .len))
+coords-index (e ∷ d) [] w = absurd (omega (arith, w .len))
 coords-index (e ∷ d) (c ∷ cs) w =
     let h = w .each 0 (omega arith) in
     let p : 0 < e = omega arith in

@@ -7,8 +7,8 @@ use native.Mathlib.Numerals.{add-one}
 use native.Mathlib.Omega.{arith}
 use lib.ListN.{length, getD, take, drop, length-append, List·getD-append, take-append-drop}
 use lib.Seq.{getD-at, take-append-le, take-all, take-suc-set, drop-set-lt}
-use Rattle.loops.specs.Loops.{fill}
-use Rattle.loops.proofs.Laws.{length-fill}
+use Rattle.folds.specs.Folds.{fill}
+use Rattle.folds.proofs.Laws.{length-fill}
 use Rattle.geometry.specs.Range.{range}
 
 module _ {A : Type 0} (f : ℕ → A) where
@@ -52,7 +52,7 @@ module _ {A : Type 0} (f : ℕ → A) where
 
   -- all of them
   pub fill-listed : (l : List A) (n : ℕ) → length l ≡ n → fill f l n ≡ map f (range n)
-  fill-listed l n long = sym (take-all n (fill f l n) (rw (length-fill f l n) (omega arith))) ∙ take-fill l n (omega arith)
+  fill-listed l n len = sym (take-all n (fill f l n) (rw (length-fill f l n) (omega arith))) ∙ take-fill l n (omega arith)
 
   pub fill-front : (l : List A) (n : ℕ) → n ≤ length l → fill f l n ≡ map f (range n) ++ drop n l
   fill-front l n h = sym (take-append-drop n (fill f l n)) ∙ rw (take-fill l n h, drop-fill l n n (omega arith))

@@ -8,8 +8,8 @@ use native.Mathlib.Omega.{arith}
 use lib.Dec.{leb, eqb}
 use lib.ListN.{length, getD}
 use borrow.Author.Tests.{leb-true, eqb-true, le-leb, eq-eqb}
-use Rattle.loops.proofs.Laws.{all-each, each-all}
-use Rattle.loops.proofs.Few.{four-are as few-are}
+use Rattle.folds.proofs.Laws.{all-each, each-all}
+use Rattle.folds.proofs.Few.{four-are as few-are}
 use Rattle.geometry.specs.Radix.{volume}
 use Rattle.geometry.specs.Shape.{Extent, Shape, extentTest, fitsOf}
 

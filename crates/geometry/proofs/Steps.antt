@@ -30,7 +30,7 @@ module _ (d : List ℕ) (pos : 0 < volume d) (n mu : ℕ) (axis : mu < length d)
   coord-below = coords-within d n pos .each mu axis
 
   pub coords-long : mu < length (coordsOf d n)
-  coords-long = omega (arith, coords-within d n pos .long)
+  coords-long = omega (arith, coords-within d n pos .len)
 
   pub moved-within : (k : ℕ) → Within d (set (coordsOf d n) mu ((getD (coordsOf d n) mu 0 + k) % getD d mu 0))
   moved-within k = within-set d (coordsOf d n) mu _ (coords-within d n pos) (mod-lt _ (omega (arith, coord-below)))

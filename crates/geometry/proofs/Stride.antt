@@ -101,11 +101,11 @@ module _ (d : List ℕ) (n mu : ℕ) (below : n < volume d) (axis : mu < length 
   whole = stride-next d mu axis
 
   pub coord-over : strideOf d mu * getD (coordsOf d n) mu 0 ≤ n
-  coord-over = rw (index-coords d n below) at (index-over d (coordsOf d n) mu (coords-within d n pos .long) axis)
+  coord-over = rw (index-coords d n below) at (index-over d (coordsOf d n) mu (coords-within d n pos .len) axis)
 
   pub moved-by : (k : ℕ) → movedOf d n mu k + strideOf d mu * getD (coordsOf d n) mu 0 ≡ n + strideOf d mu * ((getD (coordsOf d n) mu 0 + k) % getD d mu 0)
   unfolding movedOf
-  moved-by k = rw (index-coords d n below) at (index-set d (coordsOf d n) mu ((c + k) % e) (coords-within d n pos .long) axis)
+  moved-by k = rw (index-coords d n below) at (index-set d (coordsOf d n) mu ((c + k) % e) (coords-within d n pos .len) axis)
 
   pub step-up : upOf n (getD (coordsOf d n) mu 0) (getD d mu 0) (strideOf d mu) (strideOf d (suc mu)) ≡ fwdOf d n mu
   unfolding upOf fwdOf

@@ -30,5 +30,5 @@ nextCoords (e ∷ d) (c ∷ cs) = cond (ltb (c + 1) e) ((c + 1) ∷ cs) (0 ∷ n
 
 -- coordinates, one to each extent and below it
 pub record Within (d cs : List ℕ) : Type 0 where
-  pub long : length cs ≡ length d
+  pub len : length cs ≡ length d
   pub each : (mu : ℕ) → mu < length d → getD cs mu 0 < getD d mu 0

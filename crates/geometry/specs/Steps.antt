@@ -2,7 +2,7 @@
 use Prim.Native.Nat.{ℕ, _+_, _-_, _%_}
 use mathlib.Core.List.{List, [], _∷_, map}
 use lib.ListN.{getD, set}
-use Rattle.geometry.specs.declared.Near.{Near}
+use Rattle.geometry.specs.declared.Neighbours.{Neighbours}
 use Rattle.geometry.specs.declared.Spot.{Spot}
 use Rattle.geometry.specs.Range.{range}
 use Rattle.geometry.specs.Radix.{coordsOf, indexOf}
@@ -20,8 +20,8 @@ unfoldable pub bwdOf : List ℕ → ℕ → ℕ → ℕ
 bwdOf d n mu = movedOf d n mu (getD d mu 0 - 1)
 
 -- all eight neighbours: along t, x, y, z
-unfoldable pub nearOf : List ℕ → ℕ → Near
-nearOf d n = record { up = map (fwdOf d n) (range 4); down = map (bwdOf d n) (range 4) }
+unfoldable pub neighboursOf : List ℕ → ℕ → Neighbours
+neighboursOf d n = record { up = map (fwdOf d n) (range 4); down = map (bwdOf d n) (range 4) }
 
 -- a site with its coordinates
 unfoldable pub spotOf : List ℕ → ℕ → Spot

@@ -7,7 +7,7 @@ ghost use Rattle.geometry.specs.Steps.{parityOf};
 ghost use Rattle.geometry.specs.Order.{halfOf, nthOf};
 
 // The sites next to a site, up and down each axis.
-pub struct Near {
+pub struct Neighbours {
     pub up: [usize; 4],
     pub down: [usize; 4],
 }

@@ -18,8 +18,8 @@ use Rattle.gauge.specs.Polyakov.{polyakovOf}
 use Rattle.lattice.specs.declared.CoordsAnswer.{CoordsAnswer}
 use Rattle.lattice.specs.declared.PolyakovAnswer.{PolyakovAnswer}
 use Rattle.lattice.specs.declared.Plan.{Plan}
-use Rattle.field_judges.specs.Situations.{badNumber, badPair, badMatrix}
-use Rattle.field_judges.specs.Rows.{siteRows, fieldRows, planRows, planeRows, linkRows}
+use Rattle.field_checks.specs.Situations.{badNumber, badPair, badMatrix}
+use Rattle.field_checks.specs.Rows.{siteRows, fieldRows, planRows, planeRows, linkRows}
 
 unfoldable pub coordsAnswer : ℕ → List ℕ → CoordsAnswer
 coordsAnswer row c = record { refusal = row; coords = ifAccepted row c (0 ∷ 0 ∷ 0 ∷ 0 ∷ []) }

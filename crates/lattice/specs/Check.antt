@@ -9,10 +9,10 @@ use Rattle.rows.specs.Rows.{firstRow}
 use Rattle.rows.specs.Answers.{IsCount}
 use Rattle.gauge.specs.Field.{linkOf}
 use Rattle.sound.specs.Sound.{unsoundLinks, Listed}
-use Rattle.field_judges.specs.Rows.{checkRows}
+use Rattle.field_checks.specs.Rows.{linkCheckRows}
 
 abbrev pub checkRow : List ℕ → List Float → List ℕ → ℕ
-checkRow d l found = firstRow (checkRows d (length l) (length found))
+checkRow d l found = firstRow (linkCheckRows d (length l) (length found))
 
 pub record CheckCall (d : List ℕ) (l : List Float) (old : List ℕ) (r : Count) (new : List ℕ) : Type 0 where
   pub answer : IsCount (checkRow d l old) (length (unsoundLinks d (linkOf d l))) r

@@ -12,7 +12,7 @@ use Rattle.geometry.specs.Radix.{volume}
 use Rattle.gauge.specs.Field.{linkOf}
 use Rattle.lattice.specs.declared.Plan.{Plan}
 use Rattle.lattice.specs.declared.ColdAnswer.{ColdAnswer}
-use Rattle.field_judges.specs.Rows.{planRows}
+use Rattle.field_checks.specs.Rows.{planRows}
 
 -- the numbers of the identity, k times
 unfoldable pub identities : ℕ → List Float

@@ -1,4 +1,4 @@
-use field_judges::check_row;
+use field_checks::link_check_row;
 use rows::Count;
 ghost use Rattle.lattice.specs.Check.{CheckCall};
 
@@ -7,7 +7,7 @@ ghost use Rattle.lattice.specs.Check.{CheckCall};
 pub fn link_check(extents: [usize; 4], links: &[f64], found: &mut [u32]) -> Count
     ensures { λ r. ⌜ CheckCall extents (now (links .entry)) (now (found .entry)) r (now (found .exit)) ⌝ }
 {
-    let row = check_row(extents, links.len(), found.len());
+    let row = link_check_row(extents, links.len(), found.len());
     if row != 0 {
         return Count::Refused(row);
     }

@@ -1,6 +1,6 @@
 use crate::ColdAnswer;
 use crate::Plan;
-use field_judges::plan_row;
+use field_checks::plan_row;
 use mat::Su3;
 ghost use mathlib.Core.Path.{_≡_};
 ghost use Prim.Native.Nat.{_*_};

@@ -1,4 +1,4 @@
-// A gauge field in a lent list: each call judges what it is handed by the rows of its table, in
+// A gauge field in a lent list: each call checks what it is handed by the rows of its table, in
 // order, and answers the row's number or what its definition says.
 mod check;
 mod cold_start;

@@ -1,23 +1,23 @@
 use crate::Plan;
 use crate::PolyakovAnswer;
 use complex::C64;
-use field_judges::field_row;
-use field_judges::judged_matrix;
-use field_judges::judged_number;
-use field_judges::link_row;
-use field_judges::plan_row;
-use field_judges::plane_row;
+use field_checks::checked_matrix;
+use field_checks::checked_number;
+use field_checks::field_row;
+use field_checks::link_row;
+use field_checks::plan_row;
+use field_checks::plane_row;
 use mat::MatrixAnswer;
 use mat::Su3;
 use rows::Number;
 ghost use mathlib.Core.Path.{_≡_};
 ghost use mathlib.Core.List.{[], _∷_};
 ghost use Rattle.rows.specs.Rows.{firstRow};
-ghost use Rattle.field_judges.specs.Situations.{badPair};
+ghost use Rattle.field_checks.specs.Situations.{badPair};
 ghost use Rattle.lattice.specs.Answers.{polyakovAnswer, plaquetteCall, stapleCall, AverageCall, ActionCall, polyakovCall};
 
 // A complex number as an answer: row 10 where one of its parts isn't finite.
-fn judged_pair(z: C64) -> PolyakovAnswer
+fn checked_pair(z: C64) -> PolyakovAnswer
     ensures { λ r. ⌜ r ≡ polyakovAnswer (firstRow ((badPair z, 10) ∷ [])) z ⌝ }
 {
     if !z.is_finite() {
@@ -52,7 +52,7 @@ pub fn plaquette(
         };
     }
     let u = gauge::plaquette(links, extents, site, mu, nu);
-    judged_matrix(u)
+    checked_matrix(u)
 }
 
 // The sum of the six staples around a link.
@@ -68,7 +68,7 @@ pub fn staple(plan: Plan, site: usize, mu: usize, links: &[f64]) -> MatrixAnswer
         };
     }
     let a = gauge::staple(links, d, site, mu);
-    judged_matrix(a)
+    checked_matrix(a)
 }
 
 // ⟨Re Tr U_P⟩ / 3, averaged over all sites and the six planes.
@@ -80,7 +80,7 @@ pub fn average_plaquette(extents: [usize; 4], links: &[f64]) -> Number
         return Number::Refused(row);
     }
     let average = gauge::average_plaquette(links, extents);
-    judged_number(average)
+    checked_number(average)
 }
 
 // The Wilson action β Σ (1 − Re Tr U_P / 3).
@@ -93,7 +93,7 @@ pub fn action(plan: Plan, links: &[f64]) -> Number
         return Number::Refused(row);
     }
     let action = gauge::action(links, d, plan.coupling);
-    judged_number(action)
+    checked_number(action)
 }
 
 // The Polyakov loop ⟨Tr Π U_0⟩ / 3, averaged over space.
@@ -109,5 +109,5 @@ pub fn polyakov_loop(extents: [usize; 4], links: &[f64]) -> PolyakovAnswer
         };
     }
     let z = gauge::polyakov_loop(links, extents);
-    judged_pair(z)
+    checked_pair(z)
 }

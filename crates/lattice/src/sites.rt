@@ -1,15 +1,15 @@
 use crate::CoordsAnswer;
-use field_judges::coords_row;
-use field_judges::extents_row;
-use field_judges::site_row;
-use field_judges::step_row;
+use field_checks::coords_row;
+use field_checks::extents_row;
+use field_checks::site_row;
+use field_checks::step_row;
 use rows::Count;
 ghost use mathlib.Core.Path.{_≡_};
 ghost use Rattle.rows.specs.Rows.{firstRow};
 ghost use Rattle.rows.specs.Answers.{IsCount};
 ghost use Rattle.geometry.specs.Radix.{volume, indexOf};
 ghost use Rattle.geometry.specs.Steps.{fwdOf, bwdOf, parityOf};
-ghost use Rattle.field_judges.specs.Rows.{extentsRows, siteRows, coordsRows, stepRows};
+ghost use Rattle.field_checks.specs.Rows.{extentsRows, siteRows, coordsRows, stepRows};
 ghost use Rattle.lattice.specs.Answers.{coordsCall};
 
 // The number of sites.

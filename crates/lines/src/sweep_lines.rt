@@ -11,7 +11,7 @@ use sample::print::spaced_number;
 use sweep::Job;
 
 // A frame of this size visits all that is left.
-const ALL: usize = 18446744073709551615;
+const ALL: usize = usize::MAX;
 
 // The identity's update with itself scaled as the staple: every norm is the scale.
 fn bound_line(scale: f64) {

@@ -8,7 +8,7 @@ use native.Mathlib.Decide.{decLt}
 use lib.ListN.{length, set, length-set}
 use lib.Seq.{getD-set-same, getD-set-other, ext-getD}
 use lib.Ieee.{Float, nan}
-use Rattle.loops.specs.Loops.{iterTo}
+use Rattle.folds.specs.Folds.{iterTo}
 use Rattle.complex.specs.declared.C64.{C64}
 use Rattle.mat.specs.declared.Su3.{Su3}
 use Rattle.complex.specs.Complex.{cnan}
@@ -140,7 +140,7 @@ pub number-below : (v mu n : ℕ) → mu < 4 → n < v → linkNumber v mu n < 4
 number-below v mu n h g = let m = mul-le-mul-right v h in omega (arith, m)
 
 pub room : (l : List Float) (v mu n : ℕ) → Sized l v → mu < 4 → n < v → placeOf v mu n + 18 ≤ length l
-room l v mu n s h g = let b = number-below v mu n h g in omega (arith, b, s .long)
+room l v mu n s h g = let b = number-below v mu n h g in omega (arith, b, s .len)
 
 pub room-at : (l : List Float) (v mu n : ℕ) {p : ℕ} → Sized l v → mu < 4 → n < v → p ≡ placeOf v mu n → p + 18 ≤ length l
 room-at l v mu n s h g e = rw e (room l v mu n s h g)

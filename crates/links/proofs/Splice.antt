@@ -7,7 +7,7 @@ use native.Mathlib.Omega.{arith}
 use lib.Ieee.{Float, nan}
 use lib.ListN.{length, getD, set, take, drop, length-append, take-append-drop}
 use lib.Seq.{length-take-le, append-snoc, drop-cons, set-at}
-use Rattle.loops.specs.Loops.{iterTo}
+use Rattle.folds.specs.Folds.{iterTo}
 use Rattle.mat.specs.declared.Su3.{Su3}
 use Rattle.mat.specs.Matrix.{ent}
 use Rattle.links.specs.Store.{putCell, withMatrix}
@@ -26,14 +26,14 @@ length-numbersTo u (suc n) = rw (length-append, length-append, length-numbersTo 
 -- a pair put behind a front of its place's length
 put-behind : (a l : List Float) (q : ℕ) (x y : Float) → length a ≡ q → q + 2 ≤ length l
     → set (set (a ++ drop q l) q x) (q + 1) y ≡ a ++ (x ∷ []) ++ (y ∷ []) ++ drop (q + 2) l
-put-behind a l q x y long room =
+put-behind a l q x y len room =
     let two : q + 2 ≡ suc (suc q) = omega arith in
     rw (
       drop-cons l q nan (omega arith),
-      set-at a (getD l q nan) (drop (suc q) l) x q long,
+      set-at a (getD l q nan) (drop (suc q) l) x q len,
       ← (append-snoc a x (drop (suc q) l)),
       drop-cons l (suc q) nan (omega arith),
-      set-at (a ++ (x ∷ [])) (getD l (suc q) nan) (drop (suc (suc q)) l) y (q + 1) (rw (length-append, long)),
+      set-at (a ++ (x ∷ [])) (getD l (suc q) nan) (drop (suc (suc q)) l) y (q + 1) (rw (length-append, len)),
       two,
     )
     (sym (append-snoc (a ++ (x ∷ [])) y (drop (suc (suc q)) l)))

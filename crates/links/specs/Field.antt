@@ -24,7 +24,7 @@ fieldOf v l mu n = matrixAt l (placeOf v mu n)
 
 -- a list with the length of a field of v sites
 pub record Sized (l : List Float) (v : ℕ) : Type 0 where
-  pub long : length l ≡ 72 * v
+  pub len : length l ≡ 72 * v
   pub small : v ≤ 65536
 
 -- and a link of it

@@ -5,8 +5,8 @@ use mathlib.Core.Path.{_≡_, _∙_, refl}
 use native.Mathlib.Numerals.{add-one}
 use native.Mathlib.Omega.{arith}
 use lib.ListN.{set}
-use Rattle.loops.specs.Loops.{fill}
-use Rattle.loops.proofs.Laws.{fill-next}
+use Rattle.folds.specs.Folds.{fill}
+use Rattle.folds.proofs.Laws.{fill-next}
 use Rattle.rows.specs.Rows.{ifAccepted}
 use Rattle.complex.specs.declared.C64.{C64}
 use Rattle.complex.specs.Rounded.{inverse, asFloat}

@@ -4,7 +4,7 @@ use mathlib.Core.Bool.{Bool}
 use mathlib.Core.List.{List, [], _∷_}
 use lib.ListN.{getD}
 use lib.Ieee.{Float}
-use Rattle.loops.specs.Loops.{foldTo, allBelow}
+use Rattle.folds.specs.Folds.{foldTo, allBelow}
 use Rattle.complex.specs.declared.C64.{C64}
 use Rattle.mat.specs.declared.Su3.{Su3}
 use Rattle.complex.specs.Rounded.{_⊞_, fzero}

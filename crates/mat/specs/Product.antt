@@ -1,6 +1,6 @@
 -- The matrix products a·b, a·b† and a†·b: each entry is the sum from +0 of three products, in order.
 use Prim.Native.Nat.{ℕ}
-use Rattle.loops.specs.Loops.{foldTo}
+use Rattle.folds.specs.Folds.{foldTo}
 use Rattle.complex.specs.declared.C64.{C64}
 use Rattle.mat.specs.declared.Su3.{Su3}
 use Rattle.complex.specs.Complex.{czero, conjOf, cadd, cmul}

@@ -44,9 +44,9 @@ from-spot d s l p h {q} n below e =
 
 -- the spot of a site
 pub from-site : (d s : List ℕ) (l : List Float) (n : ℕ) → Shape d → length l ≡ 72 * volume d → n < volume d → s ≡ stridesOf d → {p : Spot} → p ≡ spotOf d n → From d s l p
-from-site d s l n shape long below strides {p} e =
+from-site d s l n shape len below strides {p} e =
     let same : p .site ≡ n = ap (λ (x : Spot). x .site) e ∙ spot-site d n in
-    record { holds = record { shape = shape; long = long }; strides = strides; below = rw same below; spot = e ∙ ap (spotOf d) (sym same) }
+    record { holds = record { shape = shape; len = len }; strides = strides; below = rw same below; spot = e ∙ ap (spotOf d) (sym same) }
 
 pub stored : (d s : List ℕ) (l : List Float) (p : Spot) → From d s l p → (mu v : ℕ) → mu < 4 → v ≡ volume d → Stored l v mu (p .site)
 stored d s l p h mu v axis e = rw e (record { sized = sized d l (h .holds); axis = axis; below = h .below })
@@ -166,7 +166,7 @@ module _ (d : List ℕ) (shape : Shape d) (U : Field) where
   unfolding pathOf
   path-below n s h free =
       steps-below (record { u = identityOf; site = n }) (taken s) h
-      (λ i l. let k : i < s .count = omega (arith, length-take-le (s .count) (s .steps) (free .long)) in rw (getD-take (s .count) (s .steps) i noStep k) (free .axes i k))
+      (λ i l. let k : i < s .count = omega (arith, length-take-le (s .count) (s .steps) (free .len)) in rw (getD-take (s .count) (s .steps) i noStep k) (free .axes i k))
 
 pub later-below : (d : List ℕ) → Shape d → (n t : ℕ) → n < volume d → laterOf d n t < volume d
 unfolding laterOf

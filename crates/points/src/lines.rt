@@ -18,9 +18,9 @@ fn identity(tally: Tally, links: &[f64]) -> Tally {
 
 // Two steps of a staircase, along a list that is lent, from site 0: 0 1 0 and then 1 0 0.
 fn path(tally: Tally, links: &[f64]) -> Tally {
-    let stairs = baryon::staircase_lent([1, 1, 0]);
+    let stairs = baryon::staircase_by_ref([1, 1, 0]);
     let steps = stairs.steps;
-    let got = baryon::path_lent([2, 2, 2, 2], 0, links, steps, 2);
+    let got = baryon::path_by_ref([2, 2, 2, 2], 0, links, steps, 2);
     let t = tally.whole(
         b"row that refuses the path to 1 1 0 ",
         got.refusal as u64,

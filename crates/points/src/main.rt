@@ -94,7 +94,7 @@ fn xoshiro256(tally: Tally, wanted: &[u64; 10]) -> Tally {
         let d = g.next_u64();
         t = t.whole(b"xoshiro256++ ", d.value, wanted[i]);
         g = d.rng;
-        let l = rng::draw_lent(h);
+        let l = rng::draw_by_ref(h);
         t = t.whole(b"xoshiro256++ lent ", l.value, wanted[i]);
         h = l.rng;
     }

@@ -65,7 +65,7 @@ fn refusals(t: Tally, extents: [usize; 4], zeros: &[f64]) -> Tally {
         extents,
         coupling: 6.0,
         seed: 0,
-        pass: 18446744073709551615,
+        pass: u64::MAX,
     };
     let r = sweep::open_overrelax(plan, 0, 2);
     let t = t.whole(b"row that refuses parity 2 ", r.refusal as u64, 6);

@@ -18,7 +18,7 @@ fn digits(steps: [Step; 96], count: usize) -> u64 {
 }
 
 fn staircase(tally: Tally, d: [i32; 3], label: &[u8], wanted: u64) -> Tally {
-    let got = baryon::staircase_lent(d);
+    let got = baryon::staircase_by_ref(d);
     let answer = got.answer;
     let steps = got.steps;
     match answer {
@@ -29,7 +29,7 @@ fn staircase(tally: Tally, d: [i32; 3], label: &[u8], wanted: u64) -> Tally {
 
 // The row that refuses an offset, and 0 where none does.
 fn refusal(d: [i32; 3]) -> u64 {
-    let answer = baryon::staircase_lent(d).answer;
+    let answer = baryon::staircase_by_ref(d).answer;
     match answer {
         Count::Value(n) => 0,
         Count::Refused(row) => row as u64,

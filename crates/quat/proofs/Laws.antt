@@ -9,7 +9,7 @@ use Rattle.rows.specs.Rows.{firstRow, ifAccepted}
 use Rattle.rows.proofs.Laws.{row-holds, row-passes}
 use Rattle.quat.specs.declared.Mat2.{Mat2}
 use Rattle.quat.specs.declared.Subgroup.{Subgroup}
-use Rattle.quat.specs.Subgroup.{subgroupOf, subgroupRow}
+use Rattle.quat.specs.Subgroup.{subgroupOf, subgroupRefusal}
 use Rattle.quat.specs.Answers.{zeroBlock, blockAnswer}
 
 -- ## the rows of a subgroup
@@ -33,12 +33,12 @@ pair-rows zero = (omega arith, omega arith)
 pair-rows (suc zero) = (omega arith, omega arith)
 pair-rows (suc (suc g)) = (omega arith, omega arith)
 
-pub subgroup-refused : (g : ℕ) → 2 < g → subgroupRow g ≡ 5
-unfolding subgroupRow
+pub subgroup-refused : (g : ℕ) → 2 < g → subgroupRefusal g ≡ 5
+unfolding subgroupRefusal
 subgroup-refused g h = row-holds 5 [] (lt-ltb 2 g h)
 
-pub subgroup-accepted : (g : ℕ) → g ≤ 2 → subgroupRow g ≡ 0
-unfolding subgroupRow firstRow
+pub subgroup-accepted : (g : ℕ) → g ≤ 2 → subgroupRefusal g ≡ 0
+unfolding subgroupRefusal firstRow
 subgroup-accepted g h = row-passes 5 [] (le-ltb 2 g h)
 
 -- ## answers

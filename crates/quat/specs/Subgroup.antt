@@ -19,8 +19,8 @@ subgroupOf (suc zero) = record { i = 0; j = 2 }
 subgroupOf (suc (suc g)) = record { i = 1; j = 2 }
 
 -- the refusal of a subgroup's number: 5 above 2
-unfoldable pub subgroupRow : ℕ → ℕ
-subgroupRow g = firstRow ((ltb 2 g, 5) ∷ [])
+unfoldable pub subgroupRefusal : ℕ → ℕ
+subgroupRefusal g = firstRow ((ltb 2 g, 5) ∷ [])
 
 -- the entries at rows i, j and columns i, j
 unfoldable pub blockOf : Su3 → ℕ → ℕ → Mat2

@@ -1,6 +1,6 @@
 ghost use mathlib.Core.Path.{_≡_};
 ghost use Prim.Native.Nat.{_<_};
-ghost use Rattle.quat.specs.Subgroup.{subgroupOf, withRow, blockOf, leftMulRows, subBlock, leftMulSub, subgroupRow};
+ghost use Rattle.quat.specs.Subgroup.{subgroupOf, withRow, blockOf, leftMulRows, subBlock, leftMulSub, subgroupRefusal};
 ghost use Rattle.mat.specs.Unitary.{rowOf};
 ghost use Rattle.mat.specs.Answers.{matrixAnswer};
 ghost use Rattle.quat.specs.Answers.{blockAnswer};
@@ -98,7 +98,7 @@ fn left_mul_rows(u: Su3, i: usize, j: usize, x: Mat2) -> Su3
 
 // The 2×2 block of `u` that a subgroup acts on.
 pub fn sub_block(u: Su3, subgroup: usize) -> BlockAnswer
-    ensures { λ r. ⌜ r ≡ blockAnswer (subgroupRow subgroup) (subBlock u subgroup) ⌝ }
+    ensures { λ r. ⌜ r ≡ blockAnswer (subgroupRefusal subgroup) (subBlock u subgroup) ⌝ }
 {
     if subgroup > 2 {
         return BlockAnswer {
@@ -115,7 +115,7 @@ pub fn sub_block(u: Su3, subgroup: usize) -> BlockAnswer
 
 // `u` with its subgroup's rows left-multiplied by the 2×2 matrix `x`.
 pub fn left_mul_sub(u: Su3, subgroup: usize, x: Mat2) -> MatrixAnswer
-    ensures { λ r. ⌜ r ≡ matrixAnswer (subgroupRow subgroup) (leftMulSub u subgroup x) ⌝ }
+    ensures { λ r. ⌜ r ≡ matrixAnswer (subgroupRefusal subgroup) (leftMulSub u subgroup x) ⌝ }
 {
     if subgroup > 2 {
         return MatrixAnswer {

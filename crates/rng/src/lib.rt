@@ -107,7 +107,7 @@ pub fn next_u64_mut(r: &mut Rng) -> u64
 }
 
 // One draw by lending: a program calls this, and `next_u64_mut` is lent the generator in a local.
-pub fn draw_lent(g: Rng) -> Draw
+pub fn draw_by_ref(g: Rng) -> Draw
     ensures { λ d. ⌜ d ≡ drawOf g ⌝ }
 {
     let mut r = g;

@@ -1,4 +1,4 @@
--- Rows met and rows passed; what judges and answers say.
+-- Rows met and rows passed; what checks and answers say.
 use Prim.Native.Nat.{ℕ, zero, suc, _<_}
 use mathlib.Core.Bool.{Bool, true, false, cond, _&&_, _||_, and-eq-true-iff, true≢false}
 use mathlib.Core.List.{List, [], _∷_, _++_}
@@ -10,7 +10,7 @@ use borrow.Author.Tests.{ltb-true}
 use Rattle.rows.specs.declared.Number.{Number}
 use Rattle.rows.specs.declared.Count.{Count}
 use Rattle.rows.specs.Finite.{finiteNumbers, badNumbers}
-use Rattle.rows.specs.Rows.{firstRow, ifAccepted, finally, Judged}
+use Rattle.rows.specs.Rows.{firstRow, ifAccepted, finally, Checked}
 use Rattle.rows.specs.Answers.{numberRefusal, numberValue, numberOf, IsNumber, countRefusal, countValue, countOf, IsCount}
 
 -- ## two situations, neither of which holds
@@ -67,16 +67,16 @@ module _ {A : Type 0} (accepted refused : A) where
   unfolding ifAccepted
   if-accepted e = rw e
 
--- ## judges
+-- ## checks
 
 module _ {rows : List (Bool × ℕ)} {Facts : Type 0} where
-  pub refuses : (r : ℕ) → firstRow rows ≡ suc r → Judged rows Facts (suc r)
+  pub refuses : (r : ℕ) → firstRow rows ≡ suc r → Checked rows Facts (suc r)
   refuses r e = record { row = sym e; accepted = λ h. absurd (omega arith) }
 
-  pub accepts : firstRow rows ≡ 0 → Facts → Judged rows Facts 0
+  pub accepts : firstRow rows ≡ 0 → Facts → Checked rows Facts 0
   accepts e facts = record { row = sym e; accepted = λ h. facts }
 
--- ## judges that go on from another: further rows are tried where the first ones pass
+-- ## checks that go on from another: further rows are tried where the first ones pass
 
 -- every row has a number above 0
 abbrev pub numbered : List (Bool × ℕ) → Bool
@@ -105,25 +105,25 @@ rows-pass (row ∷ rows) more above none =
     go true a none rest = absurd (omega arith)
     go false a none rest = rest none
 
-module _ {rows : List (Bool × ℕ)} {Facts : Type 0} {r : ℕ} (first : Judged rows Facts r) (more : List (Bool × ℕ)) where
-  pub first-refuses : {Further : Type 0} → (r ≡ 0 → ⊥) → Judged (rows ++ more) Further r
+module _ {rows : List (Bool × ℕ)} {Facts : Type 0} {r : ℕ} (first : Checked rows Facts r) (more : List (Bool × ℕ)) where
+  pub first-refuses : {Further : Type 0} → (r ≡ 0 → ⊥) → Checked (rows ++ more) Further r
   first-refuses ne = record { row = first .row ∙ sym (rows-refuse rows more (λ e. ne (first .row ∙ e))); accepted = λ e. absurd (ne e) }
 
   pub first-passes : numbered rows ≡ true → r ≡ 0 → firstRow (rows ++ more) ≡ firstRow more
   first-passes above e = rows-pass rows more above (sym (first .row) ∙ e)
 
-module _ {rows : List (Bool × ℕ)} {Facts : Type 0} {r : ℕ} (judged : Judged rows Facts r) (all : List (Bool × ℕ)) where
+module _ {rows : List (Bool × ℕ)} {Facts : Type 0} {r : ℕ} (checked : Checked rows Facts r) (all : List (Bool × ℕ)) where
   -- where other rows have passed, and more are to come
   module _ (more : List (Bool × ℕ)) (passed : firstRow all ≡ firstRow (rows ++ more)) where
-    pub next-refuses : {Further : Type 0} → (r ≡ 0 → ⊥) → Judged all Further r
-    next-refuses ne = record { row = judged .row ∙ sym (rows-refuse rows more (λ e. ne (judged .row ∙ e))) ∙ sym passed; accepted = λ e. absurd (ne e) }
+    pub next-refuses : {Further : Type 0} → (r ≡ 0 → ⊥) → Checked all Further r
+    next-refuses ne = record { row = checked .row ∙ sym (rows-refuse rows more (λ e. ne (checked .row ∙ e))) ∙ sym passed; accepted = λ e. absurd (ne e) }
 
     pub next-passes : numbered rows ≡ true → r ≡ 0 → firstRow all ≡ firstRow more
-    next-passes above e = passed ∙ rows-pass rows more above (sym (judged .row) ∙ e)
+    next-passes above e = passed ∙ rows-pass rows more above (sym (checked .row) ∙ e)
 
   -- where other rows have passed, and these are the last
-  pub ends-with : firstRow all ≡ firstRow rows → Judged all Facts r
-  ends-with passed = record { row = judged .row ∙ sym passed; accepted = judged .accepted }
+  pub ends-with : firstRow all ≡ firstRow rows → Checked all Facts r
+  ends-with passed = record { row = checked .row ∙ sym passed; accepted = checked .accepted }
 
 -- ## row 10 for a list
 

@@ -4,7 +4,7 @@ use mathlib.Core.List.{List}
 use lib.Ieee.{Float, nan}
 use lib.Ieee.Scale.{finite}
 use lib.ListN.{length, getD}
-use Rattle.loops.specs.Loops.{allBelow}
+use Rattle.folds.specs.Folds.{allBelow}
 
 unfoldable pub finiteNumbers : List Float → Bool
 finiteNumbers l = allBelow (λ k. finite (getD l k nan)) (length l)

@@ -18,7 +18,7 @@ ifAccepted (suc r) accepted refused = refused
 unfoldable pub finally : ℕ → Bool × ℕ → ℕ
 finally r last = ifAccepted r (firstRow (last ∷ [])) r
 
--- the answer of a judge: the first row, and what holds of the inputs where there is none
-pub record Judged (rows : List (Bool × ℕ)) (Facts : Type 0) (r : ℕ) : Type 0 where
+-- the answer of a check: the first row, and what holds of the inputs where there is none
+pub record Checked (rows : List (Bool × ℕ)) (Facts : Type 0) (r : ℕ) : Type 0 where
   pub row : r ≡ firstRow rows
   pub accepted : r ≡ 0 → Facts

@@ -16,14 +16,14 @@ use Rattle.geometry.proofs.Shape.{axis-in}
 use Rattle.gauge.specs.Polyakov.{space}
 use Rattle.slices.specs.Slices.{places, siteAt, shifted, densityAt, productAt, sliceSum, cellSum, gridAfter, gridOf}
 use Rattle.slices.specs.Claims.{SitesBySlices, OffsetsWrap, GridIsSumOfSlices, DensitiesApart}
-use Rattle.loops.proofs.Folds.{fold-same}
+use Rattle.folds.proofs.Folds.{fold-same}
 use Rattle.slices.proofs.Places.{site-at, site-below}
 
 -- ## sites
 
 site-within : (d : List ℕ) → 0 < length d → (t k : ℕ) → t < getD d 0 0 → k < places d → Within d (t ∷ coordsOf (space d) k)
 site-within [] p t k h g = absurd (omega arith)
-site-within (e ∷ d) p t k h g = record { long = ap suc (there .long); each = go }
+site-within (e ∷ d) p t k h g = record { len = ap suc (there .len); each = go }
   where
     there : Within d (coordsOf d k)
     there = coords-within d k (omega arith)
@@ -55,7 +55,7 @@ module _ (e c : List ℕ) (pos : 0 < volume e) (k : ℕ) where
 
   sums-within : Within e (map sums (range (length e)))
   sums-within = record {
-    long = length-listed sums (length e);
+    len = length-listed sums (length e);
     each = λ mu h.
         let some : 0 < getD e mu 0 = omega (arith, coords-within e k pos .each mu h) in
         rw (listed-at sums 0 (length e) mu h) (mod-lt _ some);
@@ -89,7 +89,7 @@ module _ (d : List ℕ) (k r : ℕ) (inside : r < places d) where
 
 pub grid-is-sum-of-slices : GridIsSumOfSlices
 unfolding gridOf gridAfter
-grid-is-sum-of-slices d W dens len count old k r h g = listed-at _ nan (count * places d) (k * places d + r) (cell-below d k r g count h) ∙ rw (density-is d k r g, offset-is d k r g)
+grid-is-sum-of-slices d W dens tLen count old k r h g = listed-at _ nan (count * places d) (k * places d + r) (cell-below d k r g count h) ∙ rw (density-is d k r g, offset-is d k r g)
 
 -- ## each density by itself
 
@@ -100,14 +100,14 @@ module _ (d : List ℕ) (shape : Shape d) (W S T : ℕ → Float) (same : (n : �
   time : 0 < getD d 0 0
   time = omega (arith, shape .each 0 (omega arith) .low)
 
-  cell-same : (len t r : ℕ) → 0 < places d → cellSum d W S len t r ≡ cellSum d W T len t r
+  cell-same : (tLen t r : ℕ) → 0 < places d → cellSum d W S tLen t r ≡ cellSum d W T tLen t r
   unfolding cellSum sliceSum productAt
-  cell-same len t r some =
+  cell-same tLen t r some =
       fold-same (add binary64) fzero _ _ (places d)
       (λ k h. ap (λ (x : Float). W (siteAt d t k) ⊠ x) (same _ (site-below d axis _ _ (mod-lt _ time) (shifted-below (space d) _ some k))))
 
 pub densities-apart : DensitiesApart
-densities-apart d shape W dens other len count old k h same r g =
-    grid-is-sum-of-slices d W dens len count old k r h g
-    ∙ fold-same (add binary64) _ _ _ (getD d 0 0) (λ t i. cell-same d shape W (densityAt d dens k) (densityAt d other k) same len t r (omega arith))
-    ∙ sym (grid-is-sum-of-slices d W other len count old k r h g)
+densities-apart d shape W dens other tLen count old k h same r g =
+    grid-is-sum-of-slices d W dens tLen count old k r h g
+    ∙ fold-same (add binary64) _ _ _ (getD d 0 0) (λ t i. cell-same d shape W (densityAt d dens k) (densityAt d other k) same tLen t r (omega arith))
+    ∙ sym (grid-is-sum-of-slices d W other tLen count old k r h g)

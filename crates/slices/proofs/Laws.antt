@@ -8,15 +8,15 @@ use native.Mathlib.Omega.{arith}
 use lib.Ieee.{Float, nan, binary64, add}
 use lib.ListN.{length, getD, take, drop}
 use lib.Seq.{length-take-le, drop-at, getD-drop}
-use Rattle.loops.specs.Loops.{foldTo, fill}
-use Rattle.loops.proofs.Laws.{fill-at, fold-none, fold-next}
+use Rattle.folds.specs.Folds.{foldTo, fill}
+use Rattle.folds.proofs.Laws.{fill-at, fold-none, fold-next}
 use Rattle.complex.specs.Rounded.{_⊞_, fzero}
 use Rattle.geometry.specs.Radix.{coordsOf}
 use Rattle.geometry.proofs.Range.{listed-at, drop-fill}
 use Rattle.gauge.specs.Polyakov.{space}
 use Rattle.slices.specs.Slices.{places, siteAt, midTime, number, numbersFrom, densityAt, withSlice, cellSum, loopSum, gridAfter, gridOf, loopsAfter, loopsOf}
 use Rattle.slices.proofs.Filled.{listed-same, listed-is}
-use Rattle.loops.proofs.Folds.{fold-same}
+use Rattle.folds.proofs.Folds.{fold-same}
 use Rattle.slices.proofs.SliceAdded.{slice-sum-same, slice-behind}
 
 -- what `copy_into_second_half` leaves behind the front
@@ -59,30 +59,30 @@ module _ (d : List ℕ) (W : ℕ → Float) where
 
   -- ## the second half: the grid after t slices
 
-  module _ (dens : List Float) (len count : ℕ) (old : List Float) where
+  module _ (dens : List Float) (tLen count : ℕ) (old : List Float) where
     abbrev g : ℕ
     g = count * places d
 
-    pub grid-start : length old ≡ g → old ≡ gridAfter d W dens len count old 0
+    pub grid-start : length old ≡ g → old ≡ gridAfter d W dens tLen count old 0
     unfolding gridAfter foldTo
-    grid-start long = listed-is (number old) old nan long (λ k h. refl)
+    grid-start len = listed-is (number old) old nan len (λ k h. refl)
 
     -- the loop values are written in front of it
     pub back-kept : (f : ℕ → Float) (s : List Float) {l : List Float} → 0 < count → l ≡ fill f s (places d) → drop g l ≡ drop g s
     back-kept f s some e = ap (λ (l : List Float). drop g l) e ∙ drop-fill f s (places d) g (slice-fits d count some)
 
     -- one turn: s has the loop values of the slice t at its front and the grid after t slices behind
-    pub grid-next : (t : ℕ) (s : List Float) {exit : List Float} → g ≤ length s → Front t s → drop g s ≡ gridAfter d W dens len count old t
-        → exit ≡ withSlice d dens count (midTime d len t) s → drop g exit ≡ gridAfter d W dens len count old (t + 1)
+    pub grid-next : (t : ℕ) (s : List Float) {exit : List Float} → g ≤ length s → Front t s → drop g s ≡ gridAfter d W dens tLen count old t
+        → exit ≡ withSlice d dens count (midTime d tLen t) s → drop g exit ≡ gridAfter d W dens tLen count old (t + 1)
     unfolding gridAfter foldTo cellSum
     grid-next t s room front back e =
         ap (λ (l : List Float). drop g l) e
-        ∙ slice-behind d dens count (midTime d len t) s room
+        ∙ slice-behind d dens count (midTime d tLen t) s room
         ∙ listed-same _ _ nan g (λ j h.
         let before = sym (getD-drop g s j nan) ∙ ap (λ (l : List Float). number l j) back ∙ listed-at _ nan g j h in
-        let sum = slice-sum-same d (number s) (λ k. W (siteAt d t k)) (densityAt d dens (j / places d)) (midTime d len t) (coordsOf (space d) (j % places d)) front in
+        let sum = slice-sum-same d (number s) (λ k. W (siteAt d t k)) (densityAt d dens (j / places d)) (midTime d tLen t) (coordsOf (space d) (j % places d)) front in
         rw (add-one t) (ap₂ _⊞_ before sum))
 
-    pub grid-done : {t : ℕ} {l : List Float} → t ≡ getD d 0 0 → l ≡ gridAfter d W dens len count old t → l ≡ gridOf d W dens len count old
+    pub grid-done : {t : ℕ} {l : List Float} → t ≡ getD d 0 0 → l ≡ gridAfter d W dens tLen count old t → l ≡ gridOf d W dens tLen count old
     unfolding gridOf
     grid-done e h = rw e at h

@@ -25,7 +25,7 @@ module _ (nx ny nz : ℕ) where
   three = nx ∷ ny ∷ nz ∷ []
 
   pub within-three : (x y z : ℕ) → x < nx → y < ny → z < nz → Within three (x ∷ y ∷ z ∷ [])
-  within-three x y z a b c = record { long = refl; each = go }
+  within-three x y z a b c = record { len = refl; each = go }
     where
       go : (mu : ℕ) → mu < 3 → getD (x ∷ y ∷ z ∷ []) mu 0 < getD three mu 0
       go zero h = a

@@ -6,11 +6,11 @@ use native.Mathlib.Nat.{mod-eq-of-lt, add-mul-mod-self-left, mul-add}
 use native.Mathlib.Omega.{arith}
 use lib.Ieee.{Float, binary64, add}
 use lib.ListN.{length}
-use Rattle.loops.specs.Loops.{foldTo}
+use Rattle.folds.specs.Folds.{foldTo}
 use Rattle.complex.specs.Rounded.{_⊠_}
 use Rattle.slices.specs.Slices.{number}
 use Rattle.slices.specs.Parts.{runSum, wrappedSum, Run, CellRow}
-use Rattle.loops.proofs.Folds.{fold-same, fold-more}
+use Rattle.folds.proofs.Folds.{fold-same, fold-more}
 
 module _ (w dens : List Float) (first at nt nx rx : ℕ) where
   module _ (row : CellRow w dens first at nt nx rx) where

@@ -20,7 +20,7 @@ use Rattle.slices.specs.Slices.{places, number, numbersFrom, densityAt, 
 use Rattle.slices.specs.Parts.{Cell, Scratch}
 use Rattle.geometry.proofs.Range.{fill-listed}
 use Rattle.slices.proofs.Filled.{Behind, behind-next, behind-ahead, behind-front, behind-done}
-use Rattle.loops.proofs.Folds.{fold-same}
+use Rattle.folds.proofs.Folds.{fold-same}
 use Rattle.slices.proofs.Places.{space-are}
 
 -- ## numbers of places and sites
@@ -120,12 +120,12 @@ module _ (s dens : List Float) (d : List ℕ) (count tm : ℕ) (scratch : Scratc
 
     -- what the cell's sum asks for
     pub cell-there : (l : List Float) → length l ≡ length s → Cell l dens d (j / v * sites) tm (j % v % getD d 1 0 ∷ j % v / getD d 1 0 % getD d 2 0 ∷ j % v / getD d 1 0 / getD d 2 0 ∷ [])
-    cell-there l long = record {
+    cell-there l len = record {
       shape = shape;
-      loops = omega (arith, slice-in-front, long, twice);
+      loops = omega (arith, slice-in-front, len, twice);
       density =
           let next = mul-le-mul-right (volume d) density-below in
-          rw (sizes d shape .sites) (omega (arith, next, scratch .densities .long));
+          rw (sizes d shape .sites) (omega (arith, next, scratch .densities .len));
       time = scratch .time;
       offset = rw (← (coords-by d shape (j % v) offset-below)) (coords-within (space d) (j % v) (rw (← (sizes d shape .same)) (sizes d shape .some)));
     }
@@ -144,5 +144,5 @@ module _ (s dens : List Float) (d : List ℕ) (count tm : ℕ) (scratch : Scratc
   pub slice-added : {l : List Float} → Behind g (cellAdded d dens s tm g v sites) s g l → l ≡ withSlice d dens count tm s
   unfolding withSlice
   slice-added b =
-      let long : length (drop g s) ≡ g = rw (length-drop g s) (omega (arith, twice)) in
-      rw (← (sizes d shape .same), ← (sizes d shape .sites)) (behind-done g (cellAdded d dens s tm g v sites) s b (fill-listed _ _ g long))
+      let len : length (drop g s) ≡ g = rw (length-drop g s) (omega (arith, twice)) in
+      rw (← (sizes d shape .same), ← (sizes d shape .sites)) (behind-done g (cellAdded d dens s tm g v sites) s b (fill-listed _ _ g len))

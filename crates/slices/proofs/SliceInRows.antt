@@ -6,7 +6,7 @@ use native.Mathlib.Nat.{mul-add, mod-lt}
 use native.Mathlib.Omega.{arith}
 use lib.Ieee.{Float, binary64, add}
 use lib.ListN.{length, getD}
-use Rattle.loops.specs.Loops.{foldTo, iterTo}
+use Rattle.folds.specs.Folds.{foldTo, iterTo}
 use Rattle.complex.specs.Rounded.{_⊠_, fzero}
 use Rattle.geometry.specs.Radix.{Within}
 use Rattle.geometry.specs.Shape.{Shape}
@@ -14,7 +14,7 @@ use Rattle.geometry.proofs.Shape.{axis-in}
 use Rattle.gauge.proofs.TimeLine.{places-are, line-below}
 use Rattle.slices.specs.Slices.{places, siteAt, shifted, number, numbersFrom, productAt}
 use Rattle.slices.specs.Parts.{wrappedSum, rowSum, planeSum, CellRow, Cell}
-use Rattle.loops.proofs.Folds.{fold-same, fold-iter, iter-same, iter-nested}
+use Rattle.folds.proofs.Folds.{fold-same, fold-iter, iter-same, iter-nested}
 use Rattle.slices.proofs.Places.{three, space-are, shifted-three, site-at, three-below, RowSmall, row-small}
 
 -- ## planes, then rows, are all places

@@ -11,8 +11,8 @@ use lib.Ieee.{Float, nan, binary64, add}
 use lib.ListN.{length, set}
 use lib.Seq.{ext-getD}
 use borrow.Author.Tests.{lt-ltb, le-ltb}
-use Rattle.loops.specs.Loops.{foldTo, fill}
-use Rattle.loops.proofs.Laws.{fill-next, fill-at, fill-past, length-fill}
+use Rattle.folds.specs.Folds.{foldTo, fill}
+use Rattle.folds.proofs.Laws.{fill-next, fill-at, fill-past, length-fill}
 use Rattle.complex.specs.Rounded.{_⊞_, fzero}
 use Rattle.geometry.specs.Range.{range}
 use Rattle.geometry.specs.Radix.{volume}
@@ -25,7 +25,7 @@ abbrev pub added : List Float → ℕ → List Float → ℕ → Float
 added dens v s k = number s k ⊞ foldTo (add binary64) fzero (numbersFrom dens (k * v)) v
 
 pub part-there : (dens : List Float) (d : List ℕ) (count : ℕ) → Densities dens d count → (k : ℕ) → k < count → (v : ℕ) → v ≡ volume d → k * v + v ≤ length dens
-part-there dens d count q k h v e = rw e (let next = mul-le-mul-right (volume d) h in omega (arith, next, q .long))
+part-there dens d count q k h v e = rw e (let next = mul-le-mul-right (volume d) h in omega (arith, next, q .len))
 
 pub sums-next : (dens : List Float) (v : ℕ) (s : List Float) (k : ℕ) {r : List Float} {x : Float} → r ≡ fill (added dens v s) s k
     → x ≡ foldTo (add binary64) fzero (numbersFrom dens (k * v)) v → set r k (number r k ⊞ x) ≡ fill (added dens v s) s (k + 1)

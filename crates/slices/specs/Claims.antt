@@ -4,7 +4,7 @@ use mathlib.Core.List.{List, _∷_, map}
 use mathlib.Core.Path.{_≡_}
 use lib.Ieee.{Float, nan, binary64, add}
 use lib.ListN.{length, getD}
-use Rattle.loops.specs.Loops.{foldTo}
+use Rattle.folds.specs.Folds.{foldTo}
 use Rattle.geometry.specs.Range.{range}
 use Rattle.geometry.specs.Radix.{volume, coordsOf}
 use Rattle.geometry.specs.Shape.{Shape}
@@ -24,12 +24,12 @@ pub record OffsetsWrap : Type 0 where
 
 -- a number of the grid is the one that it was, then the slices' sums for its density and its offset
 abbrev pub GridIsSumOfSlices : Type 0
-GridIsSumOfSlices = (d : List ℕ) (W : ℕ → Float) (dens : List Float) (len count : ℕ) (old : List Float) (k r : ℕ) → k < count → r < places d
-    → getD (gridOf d W dens len count old) (k * places d + r) nan
-    ≡ foldTo (add binary64) (getD old (k * places d + r) nan) (λ t. cellSum d W (densityAt d dens k) len t r) (getD d 0 0)
+GridIsSumOfSlices = (d : List ℕ) (W : ℕ → Float) (dens : List Float) (tLen count : ℕ) (old : List Float) (k r : ℕ) → k < count → r < places d
+    → getD (gridOf d W dens tLen count old) (k * places d + r) nan
+    ≡ foldTo (add binary64) (getD old (k * places d + r) nan) (λ t. cellSum d W (densityAt d dens k) tLen t r) (getD d 0 0)
 
 -- and depends on no other density
 abbrev pub DensitiesApart : Type 0
-DensitiesApart = (d : List ℕ) → Shape d → (W : ℕ → Float) (dens other : List Float) (len count : ℕ) (old : List Float) (k : ℕ) → k < count
+DensitiesApart = (d : List ℕ) → Shape d → (W : ℕ → Float) (dens other : List Float) (tLen count : ℕ) (old : List Float) (k : ℕ) → k < count
     → ((n : ℕ) → n < volume d → densityAt d dens k n ≡ densityAt d other k n) → (r : ℕ) → r < places d
-    → getD (gridOf d W dens len count old) (k * places d + r) nan ≡ getD (gridOf d W other len count old) (k * places d + r) nan
+    → getD (gridOf d W dens tLen count old) (k * places d + r) nan ≡ getD (gridOf d W other tLen count old) (k * places d + r) nan

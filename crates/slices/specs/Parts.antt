@@ -4,7 +4,7 @@ use mathlib.Core.List.{List}
 use mathlib.Core.Path.{_≡_}
 use lib.Ieee.{Float, binary64, add}
 use lib.ListN.{length, getD}
-use Rattle.loops.specs.Loops.{foldTo, iterTo}
+use Rattle.folds.specs.Folds.{foldTo, iterTo}
 use Rattle.complex.specs.Rounded.{_⊠_}
 use Rattle.geometry.specs.Radix.{volume, Within}
 use Rattle.geometry.specs.Shape.{Shape}
@@ -57,7 +57,7 @@ pub record CellPlane (w dens : List Float) (d : List ℕ) (b tm : ℕ) (c : List
 pub record Densities (dens : List Float) (d : List ℕ) (count : ℕ) : Type 0 where
   pub shape : Shape d
   pub few : count ≤ 4
-  pub long : length dens ≡ count * volume d
+  pub len : length dens ≡ count * volume d
 
 -- and a list twice as long as their grid
 pub record Scratch (s dens : List Float) (d : List ℕ) (count tm : ℕ) : Type 0 where

@@ -6,7 +6,7 @@ use mathlib.Core.List.{List, _∷_, _++_, map}
 use lib.Dec.{ltb}
 use lib.Ieee.{Float, nan, binary64, add}
 use lib.ListN.{length, getD, take}
-use Rattle.loops.specs.Loops.{foldTo}
+use Rattle.folds.specs.Folds.{foldTo}
 use Rattle.complex.specs.Rounded.{_⊞_, _⊠_, fzero}
 use Rattle.geometry.specs.Range.{range}
 use Rattle.geometry.specs.Radix.{volume, coordsOf, indexOf}
@@ -26,9 +26,9 @@ siteAt d t k = indexOf d (t ∷ coordsOf (space d) k)
 unfoldable pub shifted : List ℕ → List ℕ → ℕ → ℕ
 shifted e c k = indexOf e (map (λ mu. (getD (coordsOf e k) mu 0 + getD c mu 0) % getD e mu 0) (range (length e)))
 
--- the time at the middle of a loop of time length len that begins at t
+-- the time at the middle of a loop of time length tLen that begins at t
 abbrev pub midTime : List ℕ → ℕ → ℕ → ℕ
-midTime d len t = (t + len / 2) % getD d 0 0
+midTime d tLen t = (t + tLen / 2) % getD d 0 0
 
 -- ## Densities, in one list: density first, then site
 
@@ -65,7 +65,7 @@ withSlice d dens count tm s =
 
 -- the sum over the slice t for a density S and the r-th offset
 unfoldable pub cellSum : List ℕ → (ℕ → Float) → (ℕ → Float) → ℕ → ℕ → ℕ → Float
-cellSum d W S len t r = sliceSum d (λ k. W (siteAt d t k)) S (midTime d len t) (coordsOf (space d) r)
+cellSum d W S tLen t r = sliceSum d (λ k. W (siteAt d t k)) S (midTime d tLen t) (coordsOf (space d) r)
 
 -- the loop values of the slice t, summed
 unfoldable pub loopSum : List ℕ → (ℕ → Float) → ℕ → Float
@@ -73,14 +73,14 @@ loopSum d W t = foldTo (add binary64) fzero (λ k. W (siteAt d t k)) (places d)
 
 -- the grid after n slices: each number that it had, then the slices' sums one by one; density first, then offset
 unfoldable pub gridAfter : List ℕ → (ℕ → Float) → List Float → ℕ → ℕ → List Float → ℕ → List Float
-gridAfter d W dens len count old n =
+gridAfter d W dens tLen count old n =
     map
-    (λ j. foldTo (add binary64) (number old j) (λ t. cellSum d W (densityAt d dens (j / places d)) len t (j % places d)) n)
+    (λ j. foldTo (add binary64) (number old j) (λ t. cellSum d W (densityAt d dens (j / places d)) tLen t (j % places d)) n)
     (range (count * places d))
 
 -- after all of them
 unfoldable pub gridOf : List ℕ → (ℕ → Float) → List Float → ℕ → ℕ → List Float → List Float
-gridOf d W dens len count old = gridAfter d W dens len count old (getD d 0 0)
+gridOf d W dens tLen count old = gridAfter d W dens tLen count old (getD d 0 0)
 
 -- the loops' sum w that was, then the sums of n slices one by one
 unfoldable pub loopsAfter : List ℕ → (ℕ → Float) → Float → ℕ → Float

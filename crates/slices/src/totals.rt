@@ -3,7 +3,7 @@ ghost use mathlib.Core.Path.{_≡_};
 ghost use Prim.Native.Nat.{_+_, _≤_};
 ghost use lib.Ieee.{binary64, add};
 ghost use lib.ListN.{length};
-ghost use Rattle.loops.specs.Loops.{foldTo};
+ghost use Rattle.folds.specs.Folds.{foldTo};
 ghost use Rattle.complex.specs.Rounded.{fzero};
 ghost use Rattle.slices.specs.Slices.{numbersFrom, sumsOf};
 ghost use Rattle.slices.specs.Parts.{Densities};

@@ -6,7 +6,7 @@ use mathlib.Core.Path.{_≡_}
 use lib.Ieee.{Float, le, neg}
 use lib.Ieee.Scale.{finite}
 use lib.ListN.{length, take, drop}
-use Rattle.loops.specs.Loops.{allBelow}
+use Rattle.folds.specs.Folds.{allBelow}
 use Rattle.complex.specs.declared.C64.{C64}
 use Rattle.mat.specs.declared.Su3.{Su3}
 use Rattle.complex.specs.Rounded.{fone}

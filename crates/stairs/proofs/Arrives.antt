@@ -135,8 +135,8 @@ module _ (d : List ℤ) where
   unfolding steppedTo
   next i h b m left =
       let n = step-nearer (alongOf (placeAt d i) b) (alongOf d b) (h .between b m) left in
-      let long = long-place d i in
-      let t = total-set (placeAt d i) b (alongOf (placeAt d i) b +ℤ signum (alongOf d b)) long m (n .further) in
+      let len = long-place d i in
+      let t = total-set (placeAt d i) b (alongOf (placeAt d i) b +ℤ signum (alongOf d b)) len m (n .further) in
       (λ a k. go a k (n .between) (ℕ-discrete a b), t ∙ ap (λ (j : ℕ). j + 1) (h .steps))
     where
       go : (a : ℕ) → a < 3 → Between (alongOf (placeAt d i) b +ℤ signum (alongOf d b)) (alongOf d b) → Dec (a ≡ b)

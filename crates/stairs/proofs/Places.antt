@@ -9,7 +9,7 @@ use native.Mathlib.Omega.{arith}
 use lib.ListN.{length, set, drop, replicate, length-set}
 use lib.Seq.{getD-set-same, getD-set-other}
 use lib.IntN.{ℤ, pos, natAbs, _+ℤ_}
-use Rattle.loops.specs.Loops.{fill}
+use Rattle.folds.specs.Folds.{fill}
 use Rattle.geometry.proofs.Range.{fill-front}
 use Rattle.stairs.specs.declared.Step.{Step}
 use Rattle.stairs.specs.Line.{alongOf, signum}

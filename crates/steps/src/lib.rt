@@ -1,11 +1,11 @@
 // Steps from site to site: along an axis, to all neighbours, to the next number.
-use geometry::Near;
+use geometry::Neighbours;
 use geometry::Spot;
 ghost use mathlib.Core.Path.{_≡_};
 ghost use Prim.Native.Nat.{_+_, _-_, _%_, _<_};
 ghost use Rattle.geometry.specs.Radix.{volume, coordsOf, nextCoords, Within};
 ghost use Rattle.geometry.specs.Shape.{Shape};
-ghost use Rattle.geometry.specs.Steps.{fwdOf, bwdOf, nearOf, spotOf};
+ghost use Rattle.geometry.specs.Steps.{fwdOf, bwdOf, neighboursOf, spotOf};
 ghost use Rattle.geometry.specs.Stride.{stridesOf, upOf, downOf, StepBounds, Standing};
 
 // How far apart neighbours are along each axis, and last the number of sites.
@@ -55,9 +55,9 @@ pub fn bwd(d: [usize; 4], site: usize, mu: usize) -> usize
 }
 
 // All neighbours of a site, from the strides and the site's coordinates.
-pub fn neighbours_at(d: [usize; 4], s: [usize; 5], c: [usize; 4], n: usize) -> Near
+pub fn neighbours_at(d: [usize; 4], s: [usize; 5], c: [usize; 4], n: usize) -> Neighbours
     requires { ⌜ Shape d × (n < volume d) × (s ≡ stridesOf d) × (c ≡ coordsOf d n) ⌝ }
-    ensures { λ r. ⌜ r ≡ nearOf d n ⌝ }
+    ensures { λ r. ⌜ r ≡ neighboursOf d n ⌝ }
 {
     let mut up = [0usize; 4];
     let mut down = [0usize; 4];
@@ -65,13 +65,13 @@ pub fn neighbours_at(d: [usize; 4], s: [usize; 5], c: [usize; 4], n: usize) -> N
         up[mu] = step_up(n, c[mu], d[mu], s[mu], s[mu + 1]);
         down[mu] = step_down(n, c[mu], d[mu], s[mu], s[mu + 1]);
     }
-    Near { up, down }
+    Neighbours { up, down }
 }
 
 // All neighbours of a site.
-pub fn neighbours(d: [usize; 4], n: usize) -> Near
+pub fn neighbours(d: [usize; 4], n: usize) -> Neighbours
     requires { ⌜ Shape d × (n < volume d) ⌝ }
-    ensures { λ r. ⌜ r ≡ nearOf d n ⌝ }
+    ensures { λ r. ⌜ r ≡ neighboursOf d n ⌝ }
 {
     neighbours_at(d, strides(d), geometry::coords(d, n), n)
 }

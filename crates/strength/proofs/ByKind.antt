@@ -4,7 +4,7 @@ use mathlib.Core.List.{List}
 use mathlib.Core.Path.{_≡_, subst}
 use native.Mathlib.Numerals.{add-one}
 use lib.Ieee.{Float}
-use Rattle.geometry.specs.declared.Near.{Near}
+use Rattle.geometry.specs.declared.Neighbours.{Neighbours}
 use Rattle.links.specs.Field.{Field}
 use Rattle.strength.specs.declared.Density.{Density}
 use Rattle.strength.specs.Clover.{Around}
@@ -14,7 +14,7 @@ pub in-space : {kind : Density} {axis : ℕ} → kind ≡ Density.Electric axis 
 unfolding InSpace
 in-space e h = subst InSpace e h
 
-pub plane-at : {d : List ℕ} {l : List Float} {v n : ℕ} {near : Near} → AtSite d l v n near → {mu nu : ℕ} → mu < 4 → nu < 4 → (nu ≡ mu → ⊥) → Around d l v n mu nu near
+pub plane-at : {d : List ℕ} {l : List Float} {v n : ℕ} {near : Neighbours} → AtSite d l v n near → {mu nu : ℕ} → mu < 4 → nu < 4 → (nu ≡ mu → ⊥) → Around d l v n mu nu near
 plane-at q m o apart = record { plane = record { link = record { holds = q .holds; below = q .below; axis = m }; other = o }; apart = apart; sites = q .sites; sides = q .sides }
 
 module _ (d : List ℕ) (U : Field) (n : ℕ) {kind : Density} where

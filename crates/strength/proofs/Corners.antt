@@ -6,7 +6,7 @@ use native.Mathlib.Omega.{arith}
 use lib.Ieee.{Float}
 use lib.ListN.{getD}
 use Rattle.mat.specs.Matrix.{addOf}
-use Rattle.geometry.specs.declared.Near.{Near}
+use Rattle.geometry.specs.declared.Neighbours.{Neighbours}
 use Rattle.geometry.specs.Radix.{volume}
 use Rattle.geometry.specs.Steps.{fwdOf, bwdOf}
 use Rattle.geometry.proofs.Shape.{volume-high}
@@ -34,7 +34,7 @@ pub record Beside (d : List ℕ) (l : List Float) (v n mu nu f u b c : ℕ) : Ty
   pub leaf3 : Corners l v mu nu b c (b + c - n)
   pub leaf4 : Corners l v mu nu n c (c + f - n)
 
-pub beside : {d : List ℕ} {l : List Float} {v n mu nu : ℕ} {near : Near} → Around d l v n mu nu near
+pub beside : {d : List ℕ} {l : List Float} {v n mu nu : ℕ} {near : Neighbours} → Around d l v n mu nu near
     → Beside d l v n mu nu (getD (near .up) mu 0) (getD (near .up) nu 0) (getD (near .down) mu 0) (getD (near .down) nu 0)
 beside {d} {l} {v} {n} {mu} {nu} {near} q =
     let link = q .plane .link in
@@ -44,7 +44,7 @@ beside {d} {l} {v} {n} {mu} {nu} {near} q =
     let here = link .below in
     let high = volume-high d shape in
     let apart : mu ≡ nu → ⊥ = λ e. q .apart (sym e) in
-    let s : Sized l (volume d) = record { long = link .holds .long; small = high } in
+    let s : Sized l (volume d) = record { len = link .holds .len; small = high } in
     let f = fwd-below d shape n mu m in
     let u = fwd-below d shape n nu o in
     let b = bwd-below d shape n mu m in

@@ -4,11 +4,11 @@ use mathlib.Core.List.{List}
 use mathlib.Core.Path.{_≡_}
 use native.Mathlib.Omega.{arith}
 use lib.Ieee.{Float}
-use Rattle.geometry.specs.declared.Near.{Near}
+use Rattle.geometry.specs.declared.Neighbours.{Neighbours}
 use Rattle.strength.specs.Clover.{Around}
 use Rattle.strength.specs.Densities.{AtSite}
 
-module _ {d : List ℕ} {l : List Float} {v n : ℕ} {near : Near} (q : AtSite d l v n near) where
+module _ {d : List ℕ} {l : List Float} {v n : ℕ} {near : Neighbours} (q : AtSite d l v n near) where
   around : (mu nu : ℕ) → mu < 4 → nu < 4 → (nu ≡ mu → ⊥) → Around d l v n mu nu near
   around mu nu m o apart = record { plane = record { link = record { holds = q .holds; below = q .below; axis = m }; other = o }; apart = apart; sites = q .sites; sides = q .sides }
 

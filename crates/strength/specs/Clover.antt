@@ -7,9 +7,9 @@ use Rattle.mat.specs.declared.Su3.{Su3}
 use Rattle.mat.specs.Matrix.{addOf, scaleOf}
 use Rattle.mat.specs.Product.{mulOf, mulDagOf, dagMulOf}
 use Rattle.mat.specs.Traceless.{tracelessOf}
-use Rattle.geometry.specs.declared.Near.{Near}
+use Rattle.geometry.specs.declared.Neighbours.{Neighbours}
 use Rattle.geometry.specs.Radix.{volume}
-use Rattle.geometry.specs.Steps.{fwdOf, bwdOf, nearOf}
+use Rattle.geometry.specs.Steps.{fwdOf, bwdOf, neighboursOf}
 use Rattle.links.specs.Field.{Field}
 use Rattle.gauge.specs.Field.{Plane}
 use Rattle.gauge.specs.Plaquette.{plaquetteOf}
@@ -55,8 +55,8 @@ strengthsOf d U n = F 0 1 ∷ F 0 2 ∷ F 0 3 ∷ F 1 2 ∷ F 1 3 ∷ F 2 3 ∷ 
 
 -- ## What the functions ask for: a plane of two directions, the number of sites, and the site's neighbours
 
-pub record Around (d : List ℕ) (l : List Float) (v n mu nu : ℕ) (near : Near) : Type 0 where
+pub record Around (d : List ℕ) (l : List Float) (v n mu nu : ℕ) (near : Neighbours) : Type 0 where
   pub plane : Plane d l n mu nu
   pub apart : nu ≡ mu → ⊥
   pub sites : v ≡ volume d
-  pub sides : near ≡ nearOf d n
+  pub sides : near ≡ neighboursOf d n

@@ -7,9 +7,9 @@ use Rattle.mat.specs.declared.Su3.{Su3}
 use Rattle.complex.specs.Rounded.{_⊞_, _⊟_, _⊠_, fzero}
 use Rattle.mat.specs.Matrix.{reTr}
 use Rattle.mat.specs.Product.{mulOf}
-use Rattle.geometry.specs.declared.Near.{Near}
+use Rattle.geometry.specs.declared.Neighbours.{Neighbours}
 use Rattle.geometry.specs.Radix.{volume}
-use Rattle.geometry.specs.Steps.{nearOf}
+use Rattle.geometry.specs.Steps.{neighboursOf}
 use Rattle.links.specs.Field.{Field}
 use Rattle.gauge.specs.Field.{Holds}
 use Rattle.strength.specs.declared.Density.{Density}
@@ -62,8 +62,8 @@ InSpace Density.Charge = Unit {0}
 InSpace (Density.Electric axis) = axis < 3
 
 -- what the functions ask for: the number of sites, and the site's neighbours
-pub record AtSite (d : List ℕ) (l : List Float) (v n : ℕ) (near : Near) : Type 0 where
+pub record AtSite (d : List ℕ) (l : List Float) (v n : ℕ) (near : Neighbours) : Type 0 where
   pub holds : Holds d l
   pub below : n < volume d
   pub sites : v ≡ volume d
-  pub sides : near ≡ nearOf d n
+  pub sides : near ≡ neighboursOf d n

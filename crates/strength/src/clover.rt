@@ -1,4 +1,4 @@
-use geometry::Near;
+use geometry::Neighbours;
 use mat::Su3;
 ghost use mathlib.Core.Path.{_≡_};
 ghost use Rattle.links.specs.Field.{fieldOf};
@@ -47,7 +47,7 @@ pub fn clover_leaves(
     n: usize,
     mu: usize,
     nu: usize,
-    near: Near,
+    near: Neighbours,
 ) -> Su3
     requires { ⌜ Around d (now links) v n mu nu near ⌝ }
     ensures { λ r. ⌜ r ≡ cloverOf d (linkOf d (now (links .entry))) n mu nu ⌝ }
@@ -73,7 +73,7 @@ pub fn strength(
     n: usize,
     mu: usize,
     nu: usize,
-    near: Near,
+    near: Neighbours,
 ) -> Su3
     requires { ⌜ Around d (now links) v n mu nu near ⌝ }
     ensures { λ r. ⌜ r ≡ strengthOf d (linkOf d (now (links .entry))) n mu nu ⌝ }
@@ -84,7 +84,13 @@ pub fn strength(
 }
 
 // In the six planes.
-pub fn field_strength(links: &[f64], d: [usize; 4], v: usize, n: usize, near: Near) -> [Su3; 6]
+pub fn field_strength_at(
+    links: &[f64],
+    d: [usize; 4],
+    v: usize,
+    n: usize,
+    near: Neighbours,
+) -> [Su3; 6]
     requires { ⌜ AtSite d (now links) v n near ⌝ }
     ensures { λ r. ⌜ r ≡ strengthsOf d (linkOf d (now (links .entry))) n ⌝ }
 {

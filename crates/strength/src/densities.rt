@@ -1,7 +1,7 @@
 use crate::Density;
 use crate::clover::strength;
 use complex::C64;
-use geometry::Near;
+use geometry::Neighbours;
 use mat::Su3;
 ghost use mathlib.Core.Path.{_≡_};
 ghost use Prim.Native.Nat.{_<_};
@@ -39,7 +39,7 @@ fn plane_density(
     n: usize,
     mu: usize,
     nu: usize,
-    near: Near,
+    near: Neighbours,
 ) -> f64
     requires { ⌜ Around d (now links) v n mu nu near ⌝ }
     ensures { λ r. ⌜ r ≡ planeDensity d (linkOf d (now (links .entry))) n mu nu ⌝ }
@@ -48,7 +48,7 @@ fn plane_density(
     -trace_product(f, f)
 }
 
-fn action_density(links: &[f64], d: [usize; 4], v: usize, n: usize, near: Near) -> f64
+fn action_density(links: &[f64], d: [usize; 4], v: usize, n: usize, near: Neighbours) -> f64
     requires { ⌜ AtSite d (now links) v n near ⌝ }
     ensures { λ r. ⌜ r ≡ actionDensityOf d (linkOf d (now (links .entry))) n ⌝ }
 {
@@ -61,7 +61,7 @@ fn action_density(links: &[f64], d: [usize; 4], v: usize, n: usize, near: Near) 
         + plane_density(links, d, v, n, 2, 3, near)
 }
 
-fn charge_density(links: &[f64], d: [usize; 4], v: usize, n: usize, near: Near) -> f64
+fn charge_density(links: &[f64], d: [usize; 4], v: usize, n: usize, near: Neighbours) -> f64
     requires { ⌜ AtSite d (now links) v n near ⌝ }
     ensures { λ r. ⌜ r ≡ chargeDensityOf d (linkOf d (now (links .entry))) n ⌝ }
 {
@@ -86,7 +86,7 @@ pub fn density_at(
     d: [usize; 4],
     v: usize,
     n: usize,
-    near: Near,
+    near: Neighbours,
     kind: Density,
 ) -> f64
     requires { ⌜ AtSite d (now links) v n near × InSpace kind ⌝ }

@@ -8,7 +8,7 @@ use lib.Ieee.Scale.{finite}
 use Rattle.rows.specs.Rows.{ifAccepted}
 use Rattle.rows.specs.Finite.{finiteNumbers, badNumbers}
 use Rattle.rows.proofs.Laws.{if-refused, if-accepted}
-use Rattle.field_judges.specs.Situations.{badNumber}
+use Rattle.field_checks.specs.Situations.{badNumber}
 use Rattle.sums.specs.Ending.{badSums}
 
 -- ## a list that a call stores in or not

@@ -8,7 +8,7 @@ use lib.ListN.{length, drop, replicate}
 use Rattle.complex.specs.Rounded.{fzero}
 use Rattle.rows.specs.Rows.{firstRow, ifAccepted}
 use Rattle.rows.specs.Finite.{badNumbers}
-use Rattle.field_judges.specs.Situations.{badNumber}
+use Rattle.field_checks.specs.Situations.{badNumber}
 
 -- as many +0
 abbrev pub zerosLike : List Float → List Float

@@ -9,8 +9,8 @@ pub fn more_samples(samples: u64, sites: usize) -> u64
     ensures { λ r. ⌜ r ≡ min (samples + sites) 0xffff_ffff_ffff_ffff ⌝ }
 {
     let more = sites as u64;
-    if 18446744073709551615 - samples < more {
-        return 18446744073709551615;
+    if u64::MAX - samples < more {
+        return u64::MAX;
     }
     samples + more
 }

@@ -16,21 +16,21 @@ use Rattle.geometry.proofs.Order.{count-sites}
 use Rattle.gauge.specs.Field.{linkOf, listOf}
 use Rattle.gauge.proofs.Lists.{Same, length-list, links-of}
 use Rattle.lattice.specs.declared.Plan.{Plan}
-use Rattle.field_judges.proofs.Laws.{bad-links, good-links}
+use Rattle.field_checks.proofs.Laws.{bad-links, good-links}
 use Rattle.visits.specs.Visits.{stuckAmong, segment, overrelax, overrelaxedField, stuckCount}
 use Rattle.sweep.specs.Jobs.{InRange, newJob, counted, openCall, openRow, frameRow, frameSites, frameAnswer, frameLinks, finishedRows, finishedCall}
-use Rattle.sweep.specs.RunOfFrames.{Frame, Between, opened, answerOf, next, run, acceptedSum, OthersMisfit, Answered, firstSites, Swept, FramesAreVisits}
+use Rattle.sweep.specs.RunOfFrames.{Frame, RunState, opened, answerOf, next, run, acceptedSum, OthersMisfit, Answered, firstSites, Swept, FramesAreVisits}
 use Rattle.sweep.proofs.Laws.{good-job, Accepted, accepted-opening}
 use Rattle.visits.proofs.Visited.{visited-in, visited-out}
 use Rattle.visits.proofs.Joined.{Pieces, part-inside, pieces, length-part, few-stuck, field-nine, visits-join, count-join, visits-none}
 
-module _ (q : Plan) (mu p : ℕ) (l₀ : List Float) (ok : Accepted q mu p) (long : length l₀ ≡ 72 * volume (q .extents)) where
+module _ (q : Plan) (mu p : ℕ) (l₀ : List Float) (ok : Accepted q mu p) (len : length l₀ ≡ 72 * volume (q .extents)) where
   -- ## the state after s visits
 
   abbrev pub linksAfter : ℕ → List Float
   linksAfter s = listOf (q .extents) (overrelaxedField (q .extents) mu (linkOf (q .extents) l₀) (firstSites (q .extents) p s))
 
-  abbrev pub stateAt : ℕ → Between
+  abbrev pub stateAt : ℕ → RunState
   stateAt s = record {
     job = counted (newJob q mu p) s (stuckCount (q .extents) mu (linkOf (q .extents) l₀) (firstSites (q .extents) p s));
     links = linksAfter s;
@@ -97,13 +97,13 @@ module _ (q : Plan) (mu p : ℕ) (l₀ : List Float) (ok : Accepted q mu p) (lon
   visited-next : (s n : ℕ) → s ≤ halfOf (q .extents) → s + length (more s n) ≡ min (s + n) (halfOf (q .extents))
   visited-next s n h = ap (λ (k : ℕ). s + k) (length-part (q .extents) p (ok .shape) (ok .two) s n) ∙ omega arith
 
-  next-lent : (s n : ℕ) → s ≤ halfOf (q .extents) → next (stateAt s) (Frame.lent n) ≡ stateAt (min (s + n) (halfOf (q .extents)))
+  next-on-field : (s n : ℕ) → s ≤ halfOf (q .extents) → next (stateAt s) (Frame.onField n) ≡ stateAt (min (s + n) (halfOf (q .extents)))
   unfolding frameAnswer frameLinks frameSites ifAccepted
-  next-lent s n h = rw (takes s h, links-next s n, stuck-next s n, visited-next s n h)
+  next-on-field s n h = rw (takes s h, links-next s n, stuck-next s n, visited-next s n h)
 
-  next-other : (s n : ℕ) (l : List Float) → (length l ≡ 72 * volume (q .extents) → ⊥) → next (stateAt s) (Frame.other n l) ≡ stateAt s
+  next-on-other : (s n : ℕ) (l : List Float) → (length l ≡ 72 * volume (q .extents) → ⊥) → next (stateAt s) (Frame.onOther n l) ≡ stateAt s
   unfolding frameAnswer ifAccepted
-  next-other s n l w = rw (refuses s l w)
+  next-on-other s n l w = rw (refuses s l w)
 
   -- ## the whole list of calls, from any state
 
@@ -114,19 +114,19 @@ module _ (q : Plan) (mu p : ℕ) (l₀ : List Float) (ok : Accepted q mu p) (lon
   pub ran : (frames : List Frame) (s : ℕ) → s ≤ halfOf (q .extents) → OthersMisfit (72 * volume (q .extents)) frames → Ran s frames
   unfolding run acceptedSum Answered OthersMisfit ifAccepted
   ran [] s h w = let e : s ≡ min (s + 0) (halfOf (q .extents)) = omega arith in record { ends = ap stateAt e; answers = tt }
-  ran (Frame.lent n ∷ fs) s h w =
-      let e = next-lent s n h in
+  ran (Frame.onField n ∷ fs) s h w =
+      let e = next-on-field s n h in
       let r = ran fs (min (s + n) (halfOf (q .extents))) (omega arith) w in
-      let z : answerOf (stateAt s) (Frame.lent n) .refusal ≡ 0 = unfold frameAnswer in takes s h in
+      let z : answerOf (stateAt s) (Frame.onField n) .refusal ≡ 0 = unfold frameAnswer in takes s h in
       let t = acceptedSum (stateAt (min (s + n) (halfOf (q .extents)))) fs in
       let sum : min (min (s + n) (halfOf (q .extents)) + t) (halfOf (q .extents)) ≡ min (s + (n + t)) (halfOf (q .extents)) = omega arith in
       record { ends = rw (e, z) (r .ends ∙ ap stateAt sum); answers = (z, rw e (r .answers)) }
-  ran (Frame.other n l ∷ fs) s h w =
-      let e = next-other s n l (w .0) in
+  ran (Frame.onOther n l ∷ fs) s h w =
+      let e = next-on-other s n l (w .0) in
       let r = ran fs s h (w .1) in
       let row = refuses s l (w .0) in
-      let z : answerOf (stateAt s) (Frame.other n l) .refusal ≡ 3 = unfold frameAnswer in row in
-      let job : answerOf (stateAt s) (Frame.other n l) .job ≡ stateAt s .job = unfold frameAnswer in (rw row) in
+      let z : answerOf (stateAt s) (Frame.onOther n l) .refusal ≡ 3 = unfold frameAnswer in row in
+      let job : answerOf (stateAt s) (Frame.onOther n l) .job ≡ stateAt s .job = unfold frameAnswer in (rw row) in
       let list : frameLinks (stateAt s .job) n l ≡ l = unfold frameLinks in (rw row) in
       let t = acceptedSum (stateAt s) fs in
       let sum : min (s + t) (halfOf (q .extents)) ≡ min (s + (0 + t)) (halfOf (q .extents)) = omega arith in
@@ -142,18 +142,18 @@ module _ (q : Plan) (mu p : ℕ) (l₀ : List Float) (ok : Accepted q mu p) (lon
     count = first-count s h;
     updated = λ n m. holds s mu n (ok .axis) (part-inside (q .extents) p 0 s n m .0) ∙ visited-in (overrelax (q .extents) mu) mu (linkOf (q .extents) l₀) (firstSites (q .extents) p s) mu n refl m;
     kept = λ nu n a b out. holds s nu n a b ∙ visited-out (overrelax (q .extents) mu) mu (linkOf (q .extents) l₀) (firstSites (q .extents) p s) nu n out;
-    long = length-list (q .extents) _;
+    len = length-list (q .extents) _;
     job = refl;
     finished = unfold finishedCall ifAccepted in rw (asked s h);
   }
 
 -- ## from the opening on
 
-pub opened-state : (q : Plan) (mu p : ℕ) (l : List Float) (ok : Accepted q mu p) (long : length l ≡ 72 * volume (q .extents)) → openRow q mu p ≡ 0
-    → opened q mu p l ≡ stateAt q mu p l ok long 0
+pub opened-state : (q : Plan) (mu p : ℕ) (l : List Float) (ok : Accepted q mu p) (len : length l ≡ 72 * volume (q .extents)) → openRow q mu p ≡ 0
+    → opened q mu p l ≡ stateAt q mu p l ok len 0
 unfolding openCall ifAccepted stuckAmong
-opened-state q mu p l ok long e =
-    rw e (ap (λ (x : List Float). record { job = newJob q mu p; links = x }) (visits-none (q .extents) mu l long))
+opened-state q mu p l ok len e =
+    rw e (ap (λ (x : List Float). record { job = newJob q mu p; links = x }) (visits-none (q .extents) mu l len))
 
 pub frames-are-visits : FramesAreVisits
 frames-are-visits q mu p l frames opening misfit =

@@ -20,62 +20,62 @@ use Rattle.sweep.specs.Jobs.{newJob, openCall, updateBy, counted, frameA
 
 -- a frame call: its size, and whether it is lent the field's links or another list
 pub data Frame : Type 0 where
-  lent : ℕ → Frame
-  other : ℕ → List Float → Frame
+  onField : ℕ → Frame
+  onOther : ℕ → List Float → Frame
 
 -- what stands between two calls: the job that the last one handed back, and the links as they are
-pub record Between : Type 0 where
+pub record RunState : Type 0 where
   pub job : Job
   pub links : List Float
 
 -- a half-sweep just opened
-abbrev pub opened : Plan → ℕ → ℕ → List Float → Between
+abbrev pub opened : Plan → ℕ → ℕ → List Float → RunState
 opened q mu p l = record { job = openCall q mu p .job; links = l }
 
 abbrev pub sizeOf : Frame → ℕ
-sizeOf (lent size) = size
-sizeOf (other size l) = size
+sizeOf (onField size) = size
+sizeOf (onOther size l) = size
 
-abbrev pub answerOf : Between → Frame → Framed
-answerOf b (lent size) = frameAnswer (b .job) size (b .links)
-answerOf b (other size l) = frameAnswer (b .job) size l
+abbrev pub answerOf : RunState → Frame → Framed
+answerOf b (onField size) = frameAnswer (b .job) size (b .links)
+answerOf b (onOther size l) = frameAnswer (b .job) size l
 
 -- after a call; a list that is not the field's leaves the links alone
-abbrev pub next : Between → Frame → Between
-next b (lent size) = record { job = answerOf b (lent size) .job; links = frameLinks (b .job) size (b .links) }
-next b (other size l) = record { job = answerOf b (other size l) .job; links = b .links }
+abbrev pub next : RunState → Frame → RunState
+next b (onField size) = record { job = answerOf b (onField size) .job; links = frameLinks (b .job) size (b .links) }
+next b (onOther size l) = record { job = answerOf b (onOther size l) .job; links = b .links }
 
-unfoldable pub run : Between → List Frame → Between
+unfoldable pub run : RunState → List Frame → RunState
 run b [] = b
 run b (f ∷ fs) = run (next b f) fs
 
 -- the sum of the accepted frames, told by their answers
-unfoldable pub acceptedSum : Between → List Frame → ℕ
+unfoldable pub acceptedSum : RunState → List Frame → ℕ
 acceptedSum b [] = 0
 acceptedSum b (f ∷ fs) = ifAccepted (answerOf b f .refusal) (sizeOf f) 0 + acceptedSum (next b f) fs
 
 -- every other list has a wrong length
 unfoldable pub OthersMisfit : ℕ → List Frame → Type 0
-OthersMisfit long [] = Unit {0}
-OthersMisfit long (lent size ∷ fs) = OthersMisfit long fs
-OthersMisfit long (other size l ∷ fs) = (length l ≡ long → ⊥) × OthersMisfit long fs
+OthersMisfit len [] = Unit {0}
+OthersMisfit len (onField size ∷ fs) = OthersMisfit len fs
+OthersMisfit len (onOther size l ∷ fs) = (length l ≡ len → ⊥) × OthersMisfit len fs
 
 -- ## What holds after it
 
 -- each call's answer: on the field's links accepted; on another list refused by row 3, with the job and that list as they were
-unfoldable pub Answered : Between → List Frame → Type 0
+unfoldable pub Answered : RunState → List Frame → Type 0
 Answered b [] = Unit {0}
-Answered b (lent size ∷ fs) = (answerOf b (lent size) .refusal ≡ 0) × Answered (next b (lent size)) fs
-Answered b (other size l ∷ fs) =
-    (answerOf b (other size l) .refusal ≡ 3) × (answerOf b (other size l) .job ≡ b .job) × (frameLinks (b .job) size l ≡ l)
-    × Answered (next b (other size l)) fs
+Answered b (onField size ∷ fs) = (answerOf b (onField size) .refusal ≡ 0) × Answered (next b (onField size)) fs
+Answered b (onOther size l ∷ fs) =
+    (answerOf b (onOther size l) .refusal ≡ 3) × (answerOf b (onOther size l) .job ≡ b .job) × (frameLinks (b .job) size l ≡ l)
+    × Answered (next b (onOther size l)) fs
 
 -- the first s sites of a parity in ascending order
 abbrev pub firstSites : List ℕ → ℕ → ℕ → List ℕ
 firstSites d p s = take s (sitesOf d p)
 
 -- s sites of the half-sweep that was opened as the job j, on the field U, have been visited
-pub record Swept (j : Job) (U : Field) (s : ℕ) (b : Between) : Type 0 where
+pub record Swept (j : Job) (U : Field) (s : ℕ) (b : RunState) : Type 0 where
   -- there are that many
   pub count : length (firstSites (j .extents) (j .parity) s) ≡ s
   -- the link of each in the job's direction is what the one-link update gives from U, or its old one if it is stuck there
@@ -84,7 +84,7 @@ pub record Swept (j : Job) (U : Field) (s : ℕ) (b : Between) : Type 0 where
   -- all other links are the old ones
   pub kept : (nu n : ℕ) → nu < 4 → n < volume (j .extents) → (nu ≡ j .direction → List·Mem n (firstSites (j .extents) (j .parity) s) → ⊥)
       → linkOf (j .extents) (b .links) nu n ≡ U nu n
-  pub long : length (b .links) ≡ 72 * volume (j .extents)
+  pub len : length (b .links) ≡ 72 * volume (j .extents)
   -- the job says s visited, and how many of these links are stuck in U; all else stays as opened
   pub job : b .job ≡ counted j s (stuckAmong (updateBy j) U (firstSites (j .extents) (j .parity) s))
   -- it is finished exactly when s is half the sites

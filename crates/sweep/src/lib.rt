@@ -1,7 +1,7 @@
 // Overrelaxation: the update of one link, and half-sweeps that a host runs in frames. Each call
-// judges what it is handed by the rows of its table, in order.
+// checks what it is handed by the rows of its table, in order.
+mod checks;
 mod frames;
-mod judges;
 mod opening;
 mod single;
 

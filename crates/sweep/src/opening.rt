@@ -1,6 +1,6 @@
 use crate::Job;
 use crate::Opened;
-use crate::judges::open_row;
+use crate::checks::open_row;
 use lattice::Plan;
 ghost use mathlib.Core.Path.{_≡_};
 ghost use Rattle.sweep.specs.Jobs.{openCall};

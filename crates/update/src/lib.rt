@@ -101,7 +101,7 @@ fn third_subgroup(a: Row, b: Row, c: Row, v: Quat) -> Updated
 }
 
 // The last two, for the rows p, (_, e, f), r of w: the first entry of the second row is not read.
-fn second_subgroup(a: Row, b: Row, c: Row, p: Row, e: C64, f: C64, r: Row) -> Updated
+fn from_second(a: Row, b: Row, c: Row, p: Row, e: C64, f: C64, r: Row) -> Updated
     ensures { λ s. ⌜ ((z : C64) → s ≡ throughSubgroups (1 ∷ 2 ∷ []) (ofRows a b c) (ofRows p (record { c0 = z; c1 = e; c2 = f }) r)) ⌝ }
 {
     let v = project(p.c0, p.c2, r.c0, r.c2);
@@ -124,7 +124,7 @@ fn second_subgroup(a: Row, b: Row, c: Row, p: Row, e: C64, f: C64, r: Row) -> Up
 }
 
 // All three, for the rows p, q, r of w.
-fn first_subgroup(a: Row, b: Row, c: Row, p: Row, q: Row, r: Row) -> Updated
+fn from_first(a: Row, b: Row, c: Row, p: Row, q: Row, r: Row) -> Updated
     ensures { λ s. ⌜ s ≡ throughSubgroups (0 ∷ 1 ∷ 2 ∷ []) (ofRows a b c) (ofRows p q r) ⌝ }
 {
     let v = project(p.c0, p.c1, q.c0, q.c1);
@@ -133,7 +133,7 @@ fn first_subgroup(a: Row, b: Row, c: Row, p: Row, q: Row, r: Row) -> Updated
         return stuck_link(Stuck::ShortNorm);
     }
     let x = reflect(v, k);
-    second_subgroup(
+    from_second(
         Row::combine(x.m00, a, x.m01, b),
         Row::combine(x.m10, a, x.m11, b),
         c,
@@ -150,7 +150,7 @@ pub fn update_link(u: Su3, a: Su3) -> Updated
 {
     let w = u.mul(a).rows();
     let u = u.rows();
-    first_subgroup(u.r0, u.r1, u.r2, w.r0, w.r1, w.r2)
+    from_first(u.r0, u.r1, u.r2, w.r0, w.r1, w.r2)
 }
 
 // The update of a field's link.

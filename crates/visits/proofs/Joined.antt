@@ -72,7 +72,7 @@ module _ (d : List ℕ) (mu : ℕ) where
 
   -- before any visit
   pub visits-none : (l : List Float) → length l ≡ 72 * volume d → l ≡ listOf d (overrelaxedField d mu (linkOf d l) [])
-  visits-none l long = list-holds d l long (λ nu n h g. sym (visited-none (overrelax d mu) mu (linkOf d l) nu n))
+  visits-none l len = list-holds d l len (λ nu n h g. sym (visited-none (overrelax d mu) mu (linkOf d l) nu n))
 
 module _ (d : List ℕ) (shape : Shape d) (mu p : ℕ) (axis : mu < 4) where
   -- the list l holds the field that l₀ held, after visits of a

@@ -33,7 +33,7 @@ module _ (d : List ℕ) (l : List Float) (n mu : ℕ) (link : Link d l n mu) whe
 
   pub site-stuck : isStuck (updateOf d (linkOf d l) n mu .stuck) ≡ true → l ≡ listOf d (overrelaxedField d mu (linkOf d l) (n ∷ []))
   unfolding visitedLink
-  site-stuck stuck = list-holds d l (link .holds .long) (λ nu m h g. go nu m (ℕ-discrete nu mu) (ℕ-discrete m n))
+  site-stuck stuck = list-holds d l (link .holds .len) (λ nu m h g. go nu m (ℕ-discrete nu mu) (ℕ-discrete m n))
     where
       go : (nu m : ℕ) → Dec (nu ≡ mu) → Dec (m ≡ n) → linkOf d l nu m ≡ overrelaxedField d mu (linkOf d l) (n ∷ []) nu m
       go nu m (yes e) (yes f) = rw (here nu m e f, stuck, e, f)
@@ -44,7 +44,7 @@ module _ (d : List ℕ) (l : List Float) (n mu : ℕ) (link : Link d l n mu) whe
       → withMatrix l (placeOf (volume d) mu n) (updateOf d (linkOf d l) n mu .link) ≡ listOf d (overrelaxedField d mu (linkOf d l) (n ∷ []))
   unfolding visitedLink
   site-moved moved =
-      list-holds d (withMatrix l (placeOf (volume d) mu n) u) (length-withMatrix l (placeOf (volume d) mu n) u ∙ link .holds .long)
+      list-holds d (withMatrix l (placeOf (volume d) mu n) u) (length-withMatrix l (placeOf (volume d) mu n) u ∙ link .holds .len)
       (λ nu m h g. go nu m g (ℕ-discrete nu mu) (ℕ-discrete m n))
     where
       u : Su3

@@ -5,7 +5,7 @@ use native.Mathlib.Numerals.{add-one}
 use native.Mathlib.Omega.{arith}
 use lib.Ieee.{nan}
 use lib.ListN.{length, getD}
-use Rattle.loops.specs.Loops.{allBelow}
+use Rattle.folds.specs.Folds.{allBelow}
 use Rattle.bounds.specs.Magnitude.{withinTwo, allWithinTwo}
 use Rattle.bounds.proofs.all_within_two.Statement.{statement}
 use Rattle.bounds.proofs.all_within_two.Tie as tie

@@ -117,10 +117,10 @@ loop-again c =
     let front = front-filled d W t _ (turn .scratch) (room (c .before .before .before .before .before .before .before .before .before .before)) (λ k h. ap W (sym (site-at d axis t k h))) (filled .ensures) in
     let back = back-kept d W (a .densities .now) (a .t-len) (a .count) old _ (turn .scratch) (q .own .some) (filled .ensures) ∙ turn .inv .2 in
     let sum = loop-sum d W t s front (rw (places-are d (q .holds .shape .four)) at (c .before .before .before .before .total .ensures)) in
-    let long : a .count * places d ≤ length s = omega (arith, q .twice, turn .inv .3, filled .kept .0) in (
+    let len : a .count * places d ≤ length s = omega (arith, q .twice, turn .inv .3, filled .kept .0) in (
       omega (arith, c .before .before .before .before .before .before .before .before .before .before .loop-test .taken),
       loops-next d W _ t (turn .inv .1) sum,
-      grid-next d W (a .densities .now) (a .t-len) (a .count) old t s long front back (c .before .before .slice-cells .ensures),
+      grid-next d W (a .densities .now) (a .t-len) (a .count) old t s len front back (c .before .before .slice-cells .ensures),
       c .before .before .slice-cells .kept .0 ∙ filled .kept .0 ∙ turn .inv .3,
     )
 

@@ -3,8 +3,8 @@ use Prim.Native.Nat.{_+_, _*_, _-_, _<_, _≤_}
 use mathlib.Core.Path.{_≡_, refl, ap, sym, _∙_}
 use native.Mathlib.Omega.{arith}
 use lib.ListN.{length, getD}
-use Rattle.loops.specs.Loops.{fill}
-use Rattle.loops.proofs.Laws.{fill-none, fill-next, length-fill}
+use Rattle.folds.specs.Folds.{fill}
+use Rattle.folds.proofs.Laws.{fill-none, fill-next, length-fill}
 use Rattle.geometry.specs.declared.Spot.{Spot}
 use Rattle.geometry.specs.Radix.{volume}
 use Rattle.geometry.specs.Steps.{spotOf}

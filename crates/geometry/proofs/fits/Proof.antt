@@ -6,8 +6,8 @@ use mathlib.Core.List.{List}
 use native.Mathlib.Omega.{arith}
 use lib.ListN.{getD}
 use borrow.Author.Tests.{not-true, not-false}
-use Rattle.loops.specs.Loops.{allBelow}
-use Rattle.loops.proofs.Laws.{all-none, all-next, all-done, all-fails}
+use Rattle.folds.specs.Folds.{allBelow}
+use Rattle.folds.proofs.Laws.{all-none, all-next, all-done, all-fails}
 use Rattle.geometry.specs.Shape.{extentTest, fitsOf}
 use Rattle.geometry.proofs.fits.Statement.{statement}
 use Rattle.geometry.proofs.fits.Tie as tie

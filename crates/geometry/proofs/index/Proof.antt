@@ -37,7 +37,7 @@ add-result-3 c =
 returns : tie.Need-returns
 unfolding indexOf
 returns c =
-    let l : length (c .args .t2) ≡ 4 = rw (c .pre .1 .long) (c .pre .0 .four) in
+    let l : length (c .args .t2) ≡ 4 = rw (c .pre .1 .len) (c .pre .0 .four) in
     rw (four-are (c .args .t1) (c .pre .0 .four), four-are (c .args .t2) l) (simp (mul-zero, add-zero))
 
 pub index-spec : {M : Type 1} → statement M

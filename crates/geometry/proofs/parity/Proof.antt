@@ -23,7 +23,7 @@ unfolding parityOf total
 returns c =
     let d = c .before .args .d in
     let s = c .before .pre .0 in
-    let l : length (c .coords .result) ≡ 4 = rw (c .coords .ensures, coords-within d (c .before .args .site) (volume-pos d s) .long) (s .four) in
+    let l : length (c .coords .result) ≡ 4 = rw (c .coords .ensures, coords-within d (c .before .args .site) (volume-pos d s) .len) (s .four) in
     rw (← (c .coords .ensures), four-are (c .coords .result) l) (omega arith)
 
 pub parity-spec : {M : Type 1} → statement M

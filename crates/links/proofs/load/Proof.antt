@@ -1,8 +1,8 @@
 use Prim.Native.Nat.{_+_, _*_, _-_, _≤_}
 use mathlib.Core.Path.{_≡_}
 use native.Mathlib.Omega.{arith}
-use Rattle.loops.specs.Loops.{fill}
-use Rattle.loops.proofs.Laws.{fill-none, fill-next}
+use Rattle.folds.specs.Folds.{fill}
+use Rattle.folds.proofs.Laws.{fill-none, fill-next}
 use Rattle.mat.specs.Matrix.{zeros}
 use Rattle.mat.proofs.Laws.{fill-each}
 use Rattle.links.specs.Store.{cellAt, matrixAt}

@@ -2,7 +2,7 @@ use Prim.Native.Nat.{_-_, _≤_}
 use mathlib.Core.Path.{_≡_, refl}
 use native.Mathlib.Omega.{arith}
 use lib.ListN.{length}
-use Rattle.loops.proofs.Laws.{iter-none, iter-next, iter-done}
+use Rattle.folds.proofs.Laws.{iter-none, iter-next, iter-done}
 use Rattle.links.specs.Store.{withMatrix}
 use Rattle.links.proofs.Laws.{putCells, length-putCell}
 use Rattle.links.proofs.store.Statement.{statement}

@@ -5,8 +5,8 @@ use native.Mathlib.Omega.{arith}
 use Rattle.complex.specs.Complex.{cadd, cmul, conjOf, czero}
 use Rattle.mat.specs.Matrix.{ent, at, daggerOf}
 use Rattle.mat.specs.Product.{colCol}
-use Rattle.loops.specs.Loops.{foldTo}
-use Rattle.loops.proofs.Laws.{fold-none, fold-next, fold-done}
+use Rattle.folds.specs.Folds.{foldTo}
+use Rattle.folds.proofs.Laws.{fold-none, fold-next, fold-done}
 use Rattle.links.specs.Store.{matrixAt}
 use Rattle.links.proofs.Laws.{entry-at}
 use Rattle.mat.proofs.Entries.{dagger-at}

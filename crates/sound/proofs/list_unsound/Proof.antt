@@ -46,7 +46,7 @@ mul-sound : tie.Need-mul-sound Inv-loop μ-loop
 mul-sound c = let v = volume-high _ (c .before .before .before .before .before .pre .0 .shape) in let e = c .before .before .sites .ensures in let t = c .loop-test .taken in omega arith
 
 sound-requires : tie.Need-sound-requires Inv-loop μ-loop
-sound-requires c κs = let e = c .before .before .sites .ensures in let t = c .loop-test .taken in let l = c .before .before .before .before .before .pre .0 .long in omega arith
+sound-requires c κs = let e = c .before .before .sites .ensures in let t = c .loop-test .taken in let l = c .before .before .before .before .before .pre .0 .len in omega arith
 
 cast-found : tie.Need-cast-found Inv-loop μ-loop
 cast-found c = let v = volume-high _ (c .before .before .before .before .before .before .before .pre .0 .shape) in let e = c .before .before .before .before .sites .ensures in let t = c .before .before .loop-test .taken in omega arith
@@ -80,11 +80,11 @@ loop-again c =
     let less = c .before .before .loop-test .taken in
     let few = rw (← (i .2 .count)) at (failing-few test k) in
     let room : count < length old = let e = c .before .before .before .before .sites .ensures in let q = start .pre .1 in omega (arith, few) in
-    let judged : c .before .sound .result ≡ test k = rw (link-at v k) (c .before .sound .ensures) in
+    let checked : c .before .sound .result ≡ test k = rw (link-at v k) (c .before .sound .ensures) in
     let both : (length (c .if1 .found) ≡ length old) × Written test old (k + 1) (c .if1 .count) (c .if1 .found) =
     ⊎-elim
-    (λ w. rw (w .1, w .2) (length-set found count k ∙ i .1, written-next test old k count found (i .2) (sym judged ∙ not-true _ (w .0 .taken)) room))
-    (λ w. rw (w .1, w .2) (i .1, written-skip test old k count found (i .2) (sym judged ∙ not-false _ (w .0 .left))))
+    (λ w. rw (w .1, w .2) (length-set found count k ∙ i .1, written-next test old k count found (i .2) (sym checked ∙ not-true _ (w .0 .taken)) room))
+    (λ w. rw (w .1, w .2) (i .1, written-skip test old k count found (i .2) (sym checked ∙ not-false _ (w .0 .left))))
     (c .if1 .came) in
     (omega arith, both .0, both .1)
 

@@ -4,10 +4,10 @@ use mathlib.Core.List.{List, [], _∷_}
 use mathlib.Core.Path.{_≡_}
 use native.Mathlib.Numerals.{add-one}
 use native.Mathlib.Omega.{arith}
-use Rattle.loops.specs.Loops.{fill}
-use Rattle.loops.proofs.Laws.{fill-none, fill-next, fill-done}
+use Rattle.folds.specs.Folds.{fill}
+use Rattle.folds.proofs.Laws.{fill-none, fill-next, fill-done}
 use Rattle.geometry.specs.Range.{range}
-use Rattle.geometry.specs.Steps.{fwdOf, bwdOf, nearOf}
+use Rattle.geometry.specs.Steps.{fwdOf, bwdOf, neighboursOf}
 use Rattle.geometry.proofs.Shape.{axis-in}
 use Rattle.geometry.proofs.Stride.{stride-of, step-fits, step-up, step-down}
 use Rattle.steps.proofs.neighbours_at.Statement.{statement}
@@ -54,7 +54,7 @@ loop-again c =
     (omega arith, fill-next (fwdOf d n) zeros mu (i .1) u, fill-next (bwdOf d n) zeros mu (i .2) v)
 
 returns : tie.Need-returns Inv-loop μ-loop
-unfolding nearOf range fill
+unfolding neighboursOf range fill
 returns c =
     let i = c .before .loop .inv in
     let e : c .before .loop .mu ≡ 4 = omega arith in

@@ -34,7 +34,7 @@ room c = let all = c .before .before .before .pre .room in omega (arith, goes-on
 
 loop-holds : tie.Need-loop-holds Inv-loop μ-loop
 unfolding stuckAmong
-loop-holds c = (omega arith, visits-none _ _ _ (c .before .pre .holds .long), refl, refl, omega arith)
+loop-holds c = (omega arith, visits-none _ _ _ (c .before .pre .holds .len), refl, refl, omega arith)
 
 add-nth : tie.Need-add-nth Inv-loop μ-loop
 add-nth c =
@@ -50,7 +50,7 @@ visit-requires : tie.Need-visit-requires Inv-loop μ-loop
 visit-requires c κs =
     let run = c .before .before .before .before .before .pre in
     record {
-      holds = record { shape = run .holds .shape; long = c .before .before .before .loop .inv .3 ∙ run .holds .long };
+      holds = record { shape = run .holds .shape; len = c .before .before .before .loop .inv .3 ∙ run .holds .len };
       below = rw (c .nth .ensures) (nth-below _ (run .holds .shape) _ _ (room (c .before .before)));
       axis = run .direction;
     }

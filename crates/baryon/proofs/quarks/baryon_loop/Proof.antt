@@ -31,7 +31,7 @@ baryon-loop-requires : tie.Need-baryon-loop-requires
 baryon-loop-requires c κs = (from-site _ _ _ _ ((c .before .before .before .before .before .before .before .before .before .loop-row .ensures .accepted (c .before .before .before .before .before .before .before .before .if1 .left)) .0) ((c .before .before .before .before .before .before .before .before .before .loop-row .ensures .accepted (c .before .before .before .before .before .before .before .before .if1 .left)) .1) ((c .before .before .before .before .before .before .before .before .before .loop-row .ensures .accepted (c .before .before .before .before .before .before .before .before .if1 .left)) .2) (c .before .strides .ensures) (c .spot .ensures), stairs-passable _ (rw (c .before .before .before .before .before .before .before .offset .ensures) (each-quark _ 0 (omega arith) ((c .before .before .before .before .before .before .before .before .before .loop-row .ensures .accepted (c .before .before .before .before .before .before .before .before .if1 .left)) .3))) (c .before .before .before .before .before .before .staircase .ensures), stairs-passable _ (rw (c .before .before .before .before .before .offset2 .ensures) (each-quark _ 1 (omega arith) ((c .before .before .before .before .before .before .before .before .before .loop-row .ensures .accepted (c .before .before .before .before .before .before .before .before .if1 .left)) .3))) (c .before .before .before .before .staircase2 .ensures), stairs-passable _ (rw (c .before .before .before .offset3 .ensures) (each-quark _ 2 (omega arith) ((c .before .before .before .before .before .before .before .before .before .loop-row .ensures .accepted (c .before .before .before .before .before .before .before .before .if1 .left)) .3))) (c .before .before .staircase3 .ensures))
 
 returns-2 : tie.Need-returns-2
-returns-2 c = let a = rw (c .before .before .before .before .before .before .before .before .before .offset .ensures) at (c .before .before .before .before .before .before .before .before .staircase .ensures) in let b = rw (c .before .before .before .before .before .before .before .offset2 .ensures) at (c .before .before .before .before .before .before .staircase2 .ensures) in let e = rw (c .before .before .before .before .before .offset3 .ensures) at (c .before .before .before .before .staircase3 .ensures) in let x = baryon-is _ _ _ _ _ a b e (c .before .before .spot .ensures) (c .before .baryon-loop .ensures) in is-number _ _ (c .judged-number .ensures ∙ rw (x, last-row (c .before .before .before .before .before .before .before .before .before .before .before .loop-row .ensures .row) _ (c .before .before .before .before .before .before .before .before .before .before .if1 .left)))
+returns-2 c = let a = rw (c .before .before .before .before .before .before .before .before .before .offset .ensures) at (c .before .before .before .before .before .before .before .before .staircase .ensures) in let b = rw (c .before .before .before .before .before .before .before .offset2 .ensures) at (c .before .before .before .before .before .before .staircase2 .ensures) in let e = rw (c .before .before .before .before .before .offset3 .ensures) at (c .before .before .before .before .staircase3 .ensures) in let x = baryon-is _ _ _ _ _ a b e (c .before .before .spot .ensures) (c .before .baryon-loop .ensures) in is-number _ _ (c .checked-number .ensures ∙ rw (x, last-row (c .before .before .before .before .before .before .before .before .before .before .before .loop-row .ensures .row) _ (c .before .before .before .before .before .before .before .before .before .before .if1 .left)))
 
 pub baryon-loop-spec : {M : Type 1} → statement M
 baryon-loop-spec = tie.close (tie.spec (λ c κs. search needs) returns (λ c κs. search needs) staircase-requires (λ c κs. search needs) staircase-requires-2 (λ c κs. search needs) staircase-requires-3 strides-requires spot-requires baryon-loop-requires (λ c κs. search needs) returns-2)

@@ -7,11 +7,11 @@ use Rattle.baryon.proofs.walk.path_open.Tie as tie
 
 returns : tie.Need-returns
 unfolding openedOf
-returns c = c .refused-path .ensures ∙ path-refused _ (c .before .before .open-row .ensures .row) (c .before .if1 .taken)
+returns c = c .refused-path .ensures ∙ path-refused _ (c .before .before .path-row .ensures .row) (c .before .if1 .taken)
 
 returns-2 : tie.Need-returns-2
 unfolding openedOf
-returns-2 c = path-accepted _ (sym (c .before .open-row .ensures .row) ∙ c .if1 .left)
+returns-2 c = path-accepted _ (sym (c .before .path-row .ensures .row) ∙ c .if1 .left)
 
 pub path-open-spec : {M : Type 1} → statement M
 path-open-spec = tie.close (tie.spec (λ c κs. search needs) (λ c κs. search needs) returns returns-2)

@@ -22,7 +22,7 @@ time-line-requires : tie.Need-time-line-requires
 time-line-requires c κs = let f = c .before .before .before .line-row .ensures .accepted (c .before .before .if1 .left) in from-site _ _ _ _ (f .0) (f .1) (f .2) (c .before .strides .ensures) (c .spot .ensures)
 
 returns-2 : tie.Need-returns-2
-returns-2 c = line-answered _ _ _ _ (c .before .before .before .before .before .before .line-row .ensures .row) (c .before .before .before .before .before .if1 .left) (c .before .before .before .spot .ensures) (c .before .before .time-line .ensures) (c .judged-path .ensures)
+returns-2 c = line-answered _ _ _ _ (c .before .before .before .before .before .before .line-row .ensures .row) (c .before .before .before .before .before .if1 .left) (c .before .before .before .spot .ensures) (c .before .before .time-line .ensures) (c .checked-path .ensures)
 
 pub time-line-spec : {M : Type 1} → statement M
 time-line-spec = tie.close (tie.spec (λ c κs. search needs) (λ c κs. search needs) returns strides-requires spot-requires time-line-requires (λ c κs. search needs) returns-2)

@@ -14,7 +14,7 @@ unfolding densityRow
 returns c = list-kept _ _ (first-row (c .before .density-row .ensures .row) _ (c .if1 .taken)) (c .if1 .taken)
 
 is-finite-requires : tie.Need-is-finite-requires
-is-finite-requires c κs = let f = c .before .density-row .ensures .accepted (c .if1 .left) in (record { shape = f .0; long = f .1 }, f .3)
+is-finite-requires c κs = let f = c .before .density-row .ensures .accepted (c .if1 .left) in (record { shape = f .0; len = f .1 }, f .3)
 
 returns-2 : tie.Need-returns-2
 unfolding densityRow
@@ -24,7 +24,7 @@ returns-2 c =
     list-kept _ _ (sym ten ∙ last-row (c .before .before .before .density-row .ensures .row) _ none) (λ e. omega arith)
 
 store-requires : tie.Need-store-requires
-store-requires c κs = let f = c .before .before .before .before .density-row .ensures .accepted (c .before .before .before .if1 .left) in (record { shape = f .0; long = f .1 }, f .3, f .2)
+store-requires c κs = let f = c .before .before .before .before .density-row .ensures .accepted (c .before .before .before .if1 .left) in (record { shape = f .0; len = f .1 }, f .3, f .2)
 
 returns-3 : tie.Need-returns-3
 unfolding densityRow

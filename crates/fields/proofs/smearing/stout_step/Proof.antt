@@ -14,14 +14,14 @@ unfolding smearRow
 returns c = list-kept _ _ (first-row (c .before .smear-row .ensures .row) _ (c .if1 .taken)) (c .if1 .taken)
 
 is-finite-requires : tie.Need-is-finite-requires
-is-finite-requires c κs = let f = c .before .smear-row .ensures .accepted (c .if1 .left) in record { shape = f .0; long = f .1 }
+is-finite-requires c κs = let f = c .before .smear-row .ensures .accepted (c .if1 .left) in record { shape = f .0; len = f .1 }
 
 returns-2 : tie.Need-returns-2
 unfolding smearRow
 returns-2 c = let none = c .before .before .if1 .left in let ten = row-holds 10 _ (bad-numbers _ (sym (c .before .is-finite .ensures) ∙ not-true _ (c .if2 .taken))) in list-kept _ _ (sym ten ∙ last-row (c .before .before .before .smear-row .ensures .row) _ none) (λ e. omega arith)
 
 store-requires : tie.Need-store-requires
-store-requires c κs = let f = c .before .before .before .before .smear-row .ensures .accepted (c .before .before .before .if1 .left) in (record { shape = f .0; long = f .1 }, f .2)
+store-requires c κs = let f = c .before .before .before .before .smear-row .ensures .accepted (c .before .before .before .if1 .left) in (record { shape = f .0; len = f .1 }, f .2)
 
 returns-3 : tie.Need-returns-3
 unfolding smearRow

@@ -28,14 +28,14 @@ gather-requires : tie.Need-gather-requires
 gather-requires c κs =
     let f = facts (c .before .before .before .before .before .before .before .before) in
     record {
-      holds = record { shape = f .sizes .shape; long = f .sizes .long };
-      densities = record { shape = f .sizes .shape; few = f .own .few; long = f .sizes .sites };
+      holds = record { shape = f .sizes .shape; len = f .sizes .len };
+      densities = record { shape = f .sizes .shape; few = f .own .few; len = f .sizes .sites };
       own = f .own;
       twice = c .before .before .before .copy-into-second-half .kept .0 ∙ f .sizes .twice ∙ ap (λ (n : ℕ). n + n) (half (c .before .before .before .before .before .before .before .before));
     }
 
 density-sums-requires : tie.Need-density-sums-requires
-density-sums-requires c κs = let f = facts (c .before .before .before .before .before .before .before .before .before .before .before) in record { shape = f .sizes .shape; few = f .own .few; long = f .sizes .sites }
+density-sums-requires c κs = let f = facts (c .before .before .before .before .before .before .before .before .before .before .before) in record { shape = f .sizes .shape; few = f .own .few; len = f .sizes .sites }
 
 sites-requires : tie.Need-sites-requires
 sites-requires c κs = facts (c .before .before .before .before .before .before .before .before .before .before .before .before) .sizes .shape

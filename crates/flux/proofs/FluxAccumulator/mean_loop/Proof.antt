@@ -10,7 +10,7 @@ returns c = number-refused (first-row (c .before .mean-row .ensures .row) _ (c .
 
 returns-2 : tie.Need-returns-2
 unfolding meanLoop
-returns-2 c = is-number _ _ (c .judged-number .ensures ∙ rw (c .before .mean .ensures, last-row (c .before .before .before .mean-row .ensures .row) _ (c .before .before .if1 .left)))
+returns-2 c = is-number _ _ (c .checked-number .ensures ∙ rw (c .before .mean .ensures, last-row (c .before .before .before .mean-row .ensures .row) _ (c .before .before .if1 .left)))
 
 pub mean-loop-spec : {M : Type 1} → statement M
 mean-loop-spec = tie.close (tie.spec (λ c κs. search needs) returns (λ c κs. search needs) (λ c κs. search needs) returns-2)

@@ -2,7 +2,7 @@ use borrow.Author.Needs.{needs}
 use Prim.Native.Nat.{_-_, _≤_}
 use mathlib.Core.Path.{_≡_, refl, sym, _∙_}
 use native.Mathlib.Omega.{arith}
-use Rattle.loops.proofs.Laws.{fold-none, fold-next}
+use Rattle.folds.proofs.Laws.{fold-none, fold-next}
 use Rattle.geometry.specs.Radix.{coordsOf}
 use Rattle.geometry.proofs.Radix.{coords-within, coords-zero, next-coords}
 use Rattle.geometry.proofs.Shape.{volume-pos, volume-high}

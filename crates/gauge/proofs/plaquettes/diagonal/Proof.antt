@@ -2,7 +2,7 @@ use borrow.Author.Needs.{needs}
 use Prim.Native.Nat.{_-_, _≤_}
 use mathlib.Core.Path.{_≡_}
 use native.Mathlib.Omega.{arith}
-use Rattle.loops.proofs.Laws.{fold-none}
+use Rattle.folds.proofs.Laws.{fold-none}
 use Rattle.mat.specs.Product.{mulOf}
 use Rattle.links.specs.Store.{matrixAt}
 use Rattle.gauge.proofs.RowProducts.{dotTo, dot-next, dot-done}

@@ -3,8 +3,8 @@ use borrow.Author.Needs.{needs}
 use Prim.Native.Nat.{_*_, _-_, _≤_}
 use mathlib.Core.Path.{_≡_}
 use native.Mathlib.Omega.{arith}
-use Rattle.loops.specs.Loops.{foldTo}
-use Rattle.loops.proofs.Laws.{fold-none, fold-next}
+use Rattle.folds.specs.Folds.{foldTo}
+use Rattle.folds.proofs.Laws.{fold-none, fold-next}
 use Rattle.complex.specs.Complex.{czero, cadd}
 use Rattle.gauge.specs.Field.{linkOf}
 use Rattle.gauge.specs.Polyakov.{polyakovTrace, polyakovOf}

@@ -5,14 +5,14 @@ use Rattle.lattice.proofs.check.link_check.Statement.{statement}
 use Rattle.lattice.proofs.check.link_check.Tie as tie
 
 returns : tie.Need-returns
-returns c = record { answer = count-refused (c .before .check-row .ensures .row) _ (c .if1 .taken); listed = λ e. absurd (c .if1 .taken (c .before .check-row .ensures .row ∙ e)); kept = λ ne. refl }
+returns c = record { answer = count-refused (c .before .link-check-row .ensures .row) _ (c .if1 .taken); listed = λ e. absurd (c .if1 .taken (c .before .link-check-row .ensures .row ∙ e)); kept = λ ne. refl }
 
 list-unsound-requires : tie.Need-list-unsound-requires
-list-unsound-requires c κs = let f = c .before .before .check-row .ensures .accepted (c .before .if1 .left) in (record { shape = f .0; long = f .1 }, f .2)
+list-unsound-requires c κs = let f = c .before .before .link-check-row .ensures .accepted (c .before .if1 .left) in (record { shape = f .0; len = f .1 }, f .2)
 
 returns-2 : tie.Need-returns-2
 returns-2 c =
-    let row = c .before .before .before .before .before .check-row .ensures .row in
+    let row = c .before .before .before .before .before .link-check-row .ensures .row in
     let none = c .before .before .before .before .if1 .left in
     let list = c .before .before .list-unsound .ensures in
     record {

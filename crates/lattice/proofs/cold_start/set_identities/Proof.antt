@@ -4,7 +4,7 @@ use mathlib.Core.Path.{_≡_, refl, _∙_}
 use native.Mathlib.Omega.{arith}
 use lib.ListN.{length}
 use Rattle.links.proofs.Laws.{length-withMatrix}
-use Rattle.lattice.proofs.Frozen.{frozen, frozen-none, frozen-next, frozen-done}
+use Rattle.lattice.proofs.ColdLinks.{frozen, frozen-none, frozen-next, frozen-done}
 use Rattle.lattice.proofs.cold_start.set_identities.Statement.{statement}
 use Rattle.lattice.proofs.cold_start.set_identities.Tie as tie
 

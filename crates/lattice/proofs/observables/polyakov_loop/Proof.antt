@@ -18,11 +18,11 @@ unfolding polyakovCall
 returns c = loop-kept _ (first-row (c .before .field-row .ensures .row) _ (c .if1 .taken)) (c .if1 .taken)
 
 polyakov-loop-requires : tie.Need-polyakov-loop-requires
-polyakov-loop-requires c κs = let f = c .before .field-row .ensures .accepted (c .if1 .left) in record { shape = f .0; long = f .1 }
+polyakov-loop-requires c κs = let f = c .before .field-row .ensures .accepted (c .if1 .left) in record { shape = f .0; len = f .1 }
 
 returns-2 : tie.Need-returns-2
 unfolding polyakovCall
-returns-2 c = c .judged-pair .ensures ∙ rw (c .before .polyakov-loop .ensures, last-row (c .before .before .before .field-row .ensures .row) _ (c .before .before .if1 .left))
+returns-2 c = c .checked-pair .ensures ∙ rw (c .before .polyakov-loop .ensures, last-row (c .before .before .before .field-row .ensures .row) _ (c .before .before .if1 .left))
 
 pub polyakov-loop-spec : {M : Type 1} → statement M
 polyakov-loop-spec = tie.close (tie.spec (λ c κs. search needs) returns polyakov-loop-requires (λ c κs. search needs) returns-2)

@@ -3,8 +3,8 @@ use borrow.Author.Needs.{needs}
 use mathlib.Core.Path.{_≡_}
 use native.Mathlib.Omega.{arith}
 use lib.ListN.{getD}
-use Rattle.loops.specs.Loops.{fill}
-use Rattle.loops.proofs.Laws.{fill-none, fill-done}
+use Rattle.folds.specs.Folds.{fill}
+use Rattle.folds.proofs.Laws.{fill-none, fill-done}
 use Rattle.complex.specs.Complex.{cnan, conjOf}
 use Rattle.mat.specs.Matrix.{daggerOf, zeros}
 use Rattle.mat.proofs.Laws.{byRow, fill-row, fill-table}

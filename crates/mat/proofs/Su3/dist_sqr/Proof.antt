@@ -7,8 +7,8 @@ use lib.Ieee.{binary64, add}
 use Rattle.mat.specs.Matrix.{distSqr}
 use Rattle.complex.specs.Rounded.{fzero}
 use Rattle.complex.specs.Complex.{csub, normSqr, cnan}
-use Rattle.loops.specs.Loops.{foldTo}
-use Rattle.loops.proofs.Laws.{fold-none, fold-next, fold-done}
+use Rattle.folds.specs.Folds.{foldTo}
+use Rattle.folds.proofs.Laws.{fold-none, fold-next, fold-done}
 use Rattle.mat.proofs.Su3.dist_sqr.Statement.{statement}
 use Rattle.mat.proofs.Su3.dist_sqr.Tie as tie
 

@@ -5,8 +5,8 @@ use mathlib.Core.Path.{_≡_, sym, _∙_}
 use mathlib.Core.Bool.{true}
 use native.Mathlib.Omega.{arith}
 use lib.ListN.{getD}
-use Rattle.loops.specs.Loops.{allBelow}
-use Rattle.loops.proofs.Laws.{all-none, all-next, all-fails, all-done}
+use Rattle.folds.specs.Folds.{allBelow}
+use Rattle.folds.proofs.Laws.{all-none, all-next, all-fails, all-done}
 use Rattle.complex.specs.Complex.{cnan, finiteEntry}
 use Rattle.mat.specs.Matrix.{finiteMatrix}
 use Rattle.mat.proofs.Su3.is_finite.Statement.{statement}

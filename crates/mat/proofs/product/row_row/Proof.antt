@@ -5,8 +5,8 @@ use native.Mathlib.Omega.{arith}
 use lib.ListN.{getD}
 use Rattle.mat.specs.Product.{rowRow}
 use Rattle.complex.specs.Complex.{cadd, cmul, conjOf, czero, cnan}
-use Rattle.loops.specs.Loops.{foldTo}
-use Rattle.loops.proofs.Laws.{fold-none, fold-next, fold-done}
+use Rattle.folds.specs.Folds.{foldTo}
+use Rattle.folds.proofs.Laws.{fold-none, fold-next, fold-done}
 use Rattle.mat.proofs.product.row_row.Statement.{statement}
 use Rattle.mat.proofs.product.row_row.Tie as tie
 

@@ -3,8 +3,8 @@ use borrow.Author.Needs.{needs}
 use mathlib.Core.Path.{_≡_, _∙_}
 use native.Mathlib.Omega.{arith}
 use lib.ListN.{getD}
-use Rattle.loops.specs.Loops.{iterTo}
-use Rattle.loops.proofs.Laws.{iter-none, iter-next}
+use Rattle.folds.specs.Folds.{iterTo}
+use Rattle.folds.proofs.Laws.{iter-none, iter-next}
 use Rattle.complex.specs.Rounded.{fzero}
 use Rattle.slices.specs.Slices.{number, numbersFrom, productAt, sliceSum}
 use Rattle.slices.specs.Parts.{planeSum}

@@ -3,8 +3,8 @@ use borrow.Author.Needs.{needs}
 use mathlib.Core.Path.{_≡_, _∙_}
 use native.Mathlib.Omega.{arith}
 use lib.ListN.{getD}
-use Rattle.loops.specs.Loops.{iterTo}
-use Rattle.loops.proofs.Laws.{iter-none, iter-next}
+use Rattle.folds.specs.Folds.{iterTo}
+use Rattle.folds.proofs.Laws.{iter-none, iter-next}
 use Rattle.slices.specs.Parts.{wrappedSum}
 use Rattle.slices.proofs.SliceInRows.{offset-three, plane-is, TwoRows, two-rows}
 use Rattle.slices.proofs.cells.plane.Statement.{statement}

@@ -2,7 +2,7 @@ use Prim.Native.Nat.{_-_, _≤_}
 use borrow.Author.Needs.{needs}
 use mathlib.Core.Path.{_≡_, refl}
 use native.Mathlib.Omega.{arith}
-use Rattle.loops.proofs.Laws.{fold-none, fold-next, fold-done}
+use Rattle.folds.proofs.Laws.{fold-none, fold-next, fold-done}
 use Rattle.slices.specs.Parts.{runSum}
 use Rattle.slices.proofs.cells.run.Statement.{statement}
 use Rattle.slices.proofs.cells.run.Tie as tie

@@ -52,7 +52,7 @@ div-scratch : tie.Need-div-scratch Inv-loop μ-loop
 div-scratch c = omega (arith, shape-low _ (c .before .before .before .before .before .pre .densities .shape) .y)
 
 cell-requires : tie.Need-cell-requires Inv-loop μ-loop
-cell-requires c κs = cell-there _ _ _ _ _ (c .before .before .before .before .before .pre) _ (c .before .loop-test .taken) _ (c .before .before .loop .inv .1 .long)
+cell-requires c κs = cell-there _ _ _ _ _ (c .before .before .before .before .before .pre) _ (c .before .loop-test .taken) _ (c .before .before .loop .inv .1 .len)
 
 add-scratch : tie.Need-add-scratch Inv-loop μ-loop
 add-scratch c = omega (arith, few _ _ _ _ _ (c .before .before .before .before .before .before .pre), c .before .before .loop-test .taken)
@@ -61,7 +61,7 @@ mul-scratch : tie.Need-mul-scratch Inv-loop μ-loop
 mul-scratch c = omega (arith, few _ _ _ _ _ (c .before .before .before .before .before .before .pre), c .before .before .loop-test .taken)
 
 slice-read-scratch : tie.Need-slice-read-scratch Inv-loop μ-loop
-slice-read-scratch c = omega (arith, twice _ _ _ _ _ (c .before .before .before .before .before .before .before .pre), c .before .before .before .loop-test .taken, c .before .before .before .before .loop .inv .1 .long)
+slice-read-scratch c = omega (arith, twice _ _ _ _ _ (c .before .before .before .before .before .before .before .pre), c .before .before .before .loop-test .taken, c .before .before .before .before .loop .inv .1 .len)
 
 add-scratch-2 : tie.Need-add-scratch-2 Inv-loop μ-loop
 add-scratch-2 c = omega (arith, few _ _ _ _ _ (c .before .before .before .before .before .before .before .pre), c .before .before .before .loop-test .taken)
@@ -70,7 +70,7 @@ mul-scratch-2 : tie.Need-mul-scratch-2 Inv-loop μ-loop
 mul-scratch-2 c = omega (arith, few _ _ _ _ _ (c .before .before .before .before .before .before .before .pre), c .before .before .before .loop-test .taken)
 
 slice-write-scratch : tie.Need-slice-write-scratch Inv-loop μ-loop
-slice-write-scratch c = omega (arith, twice _ _ _ _ _ (c .before .before .before .before .before .before .before .pre), c .before .before .before .loop-test .taken, c .before .before .before .before .loop .inv .1 .long)
+slice-write-scratch c = omega (arith, twice _ _ _ _ _ (c .before .before .before .before .before .before .before .pre), c .before .before .before .loop-test .taken, c .before .before .before .before .loop .inv .1 .len)
 
 add-j : tie.Need-add-j Inv-loop μ-loop
 add-j c = omega (arith, few _ _ _ _ _ (c .before .before .before .before .before .before .before .pre), c .before .before .before .loop-test .taken)
@@ -79,7 +79,7 @@ loop-again : tie.Need-loop-again Inv-loop μ-loop
 loop-again c = (omega (arith, c .before .before .before .loop-test .taken), cell-next _ _ _ _ _ (c .before .before .before .before .before .before .before .pre) _ (c .before .before .before .loop-test .taken) _ (c .before .before .before .before .loop .inv .1) (c .before .cell .ensures))
 
 same-length : tie.Need-same-length Inv-loop μ-loop
-same-length c = c .before .loop .inv .1 .long
+same-length c = c .before .loop .inv .1 .len
 
 returns : tie.Need-returns Inv-loop μ-loop
 returns c =

@@ -5,7 +5,7 @@ use native.Mathlib.Numerals.{add-one}
 use native.Mathlib.Omega.{arith}
 use lib.Ieee.Scale.{finite}
 use lib.ListN.{length}
-use Rattle.loops.specs.Loops.{allBelow}
+use Rattle.folds.specs.Folds.{allBelow}
 use Rattle.rows.specs.Finite.{finiteNumbers}
 use Rattle.slices.specs.Slices.{number}
 use Rattle.slices.proofs.lists.all_finite.Statement.{statement}

@@ -4,8 +4,8 @@ use mathlib.Core.Path.{_≡_, refl, sym, _∙_}
 use native.Mathlib.Omega.{arith}
 use lib.Ieee.{nan}
 use lib.ListN.{length, replicate}
-use Rattle.loops.specs.Loops.{fill}
-use Rattle.loops.proofs.Laws.{fill-none, fill-next, length-fill}
+use Rattle.folds.specs.Folds.{fill}
+use Rattle.folds.proofs.Laws.{fill-none, fill-next, length-fill}
 use Rattle.complex.specs.Rounded.{fzero}
 use Rattle.slices.proofs.Filled.{fill-is, replicate-at, length-replicate}
 use Rattle.slices.proofs.lists.clear.Statement.{statement}
@@ -29,9 +29,9 @@ same-length c = c .before .loop .inv .2
 returns : tie.Need-returns Inv-loop μ-loop
 returns c =
     let n = length (c .before .before .args .l .now) in
-    let long = length-replicate n fzero in
-    let e : c .before .loop .i ≡ length (replicate n fzero) = omega (arith, long) in
-    rw e at (c .before .loop .inv .1) ∙ fill-is _ _ (replicate n fzero) nan (sym long) (λ k h. replicate-at n fzero nan k (rw long at h))
+    let len = length-replicate n fzero in
+    let e : c .before .loop .i ≡ length (replicate n fzero) = omega (arith, len) in
+    rw e at (c .before .loop .inv .1) ∙ fill-is _ _ (replicate n fzero) nan (sym len) (λ k h. replicate-at n fzero nan k (rw len at h))
 
 pub clear-spec : {M : Type 1} → statement M
 clear-spec = tie.close (tie.spec Inv-loop μ-loop loop-holds (λ c. search needs) (λ c. search needs) (λ c. search needs) (λ c. search needs) loop-again same-length returns)

@@ -5,8 +5,8 @@ use native.Mathlib.Omega.{arith}
 use lib.Ieee.{nan}
 use lib.ListN.{length, length-drop, drop}
 use lib.Seq.{getD-drop}
-use Rattle.loops.specs.Loops.{fill}
-use Rattle.loops.proofs.Laws.{fill-none, fill-next, length-fill}
+use Rattle.folds.specs.Folds.{fill}
+use Rattle.folds.proofs.Laws.{fill-none, fill-next, length-fill}
 use Rattle.slices.specs.Slices.{numbersFrom}
 use Rattle.slices.proofs.Filled.{fill-is}
 use Rattle.slices.proofs.lists.copy_from_second_half.Statement.{statement}
@@ -40,9 +40,9 @@ returns : tie.Need-returns Inv-loop μ-loop
 returns c =
     let from = c .before .before .args .from .now in
     let g = length (c .before .before .args .list .now) in
-    let long : g ≡ length (drop g from) = rw (length-drop g from) (omega (arith, c .before .before .pre)) in
-    let e : c .before .loop .i ≡ length (drop g from) = omega (arith, long) in
-    rw e at (c .before .loop .inv .1) ∙ fill-is _ _ (drop g from) nan long (λ k h. sym (getD-drop g from k nan))
+    let len : g ≡ length (drop g from) = rw (length-drop g from) (omega (arith, c .before .before .pre)) in
+    let e : c .before .loop .i ≡ length (drop g from) = omega (arith, len) in
+    rw e at (c .before .loop .inv .1) ∙ fill-is _ _ (drop g from) nan len (λ k h. sym (getD-drop g from k nan))
 
 pub copy-from-second-half-spec : {M : Type 1} → statement M
 copy-from-second-half-spec = tie.close (tie.spec Inv-loop μ-loop loop-holds add-list mul-list shared-slice-read-list (λ c. search needs) (λ c. search needs) (λ c. search needs) (λ c. search needs) loop-again same-length returns)

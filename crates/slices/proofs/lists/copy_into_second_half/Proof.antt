@@ -25,21 +25,21 @@ mul-to-2 : tie.Need-mul-to-2 Inv-loop μ-loop
 mul-to-2 c = omega (arith, c .before .before .before .pre, c .before .before .before .good)
 
 slice-write-to : tie.Need-slice-write-to Inv-loop μ-loop
-slice-write-to c = omega (arith, c .before .before .before .pre, c .before .before .loop .inv .1 .long)
+slice-write-to c = omega (arith, c .before .before .before .pre, c .before .before .loop .inv .1 .len)
 
 loop-again : tie.Need-loop-again Inv-loop μ-loop
 loop-again c = (omega arith, behind-next _ _ _ _ (c .before .before .loop .inv .1) refl)
 
 same-length : tie.Need-same-length Inv-loop μ-loop
-same-length c = c .before .loop .inv .1 .long
+same-length c = c .before .loop .inv .1 .len
 
 returns : tie.Need-returns Inv-loop μ-loop
 returns c =
     let to = c .before .before .args .to .now in
     let list = c .before .before .args .list .now in
-    let long : length (drop (length list) to) ≡ length list = rw (length-drop (length list) to) (omega (arith, c .before .before .pre)) in
+    let len : length (drop (length list) to) ≡ length list = rw (length-drop (length list) to) (omega (arith, c .before .before .pre)) in
     let e : c .before .loop .i ≡ length list = omega arith in
-    behind-done _ _ _ (rw e at (c .before .loop .inv .1)) (fill-is _ _ list nan long (λ k h. refl))
+    behind-done _ _ _ (rw e at (c .before .loop .inv .1)) (fill-is _ _ list nan len (λ k h. refl))
 
 pub copy-into-second-half-spec : {M : Type 1} → statement M
 copy-into-second-half-spec = tie.close (tie.spec Inv-loop μ-loop loop-holds (λ c. search needs) (λ c. search needs) add-to mul-to-2 slice-write-to (λ c. search needs) (λ c. search needs) loop-again same-length returns)

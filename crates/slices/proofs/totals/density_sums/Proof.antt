@@ -2,8 +2,8 @@ use Prim.Native.Nat.{_-_, _≤_}
 use borrow.Author.Needs.{needs}
 use mathlib.Core.Path.{_≡_, _∙_}
 use native.Mathlib.Omega.{arith}
-use Rattle.loops.specs.Loops.{fill}
-use Rattle.loops.proofs.Laws.{fill-none}
+use Rattle.folds.specs.Folds.{fill}
+use Rattle.folds.proofs.Laws.{fill-none}
 use Rattle.slices.proofs.SumsSoFar.{added, part-there, sums-next, sums-are}
 use Rattle.slices.proofs.totals.density_sums.Statement.{statement}
 use Rattle.slices.proofs.totals.density_sums.Tie as tie

@@ -3,8 +3,8 @@ use borrow.Author.Needs.{needs}
 use mathlib.Core.Path.{_≡_, refl}
 use native.Mathlib.Omega.{arith}
 use lib.Ieee.{binary64, add}
-use Rattle.loops.specs.Loops.{foldTo}
-use Rattle.loops.proofs.Laws.{fold-none, fold-next, fold-done}
+use Rattle.folds.specs.Folds.{foldTo}
+use Rattle.folds.proofs.Laws.{fold-none, fold-next, fold-done}
 use Rattle.complex.specs.Rounded.{fzero}
 use Rattle.slices.specs.Slices.{numbersFrom}
 use Rattle.slices.proofs.totals.total.Statement.{statement}

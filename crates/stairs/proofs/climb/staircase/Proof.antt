@@ -3,8 +3,8 @@ use Prim.Native.Nat.{_-_, _≤_}
 use mathlib.Core.Path.{_≡_}
 use native.Mathlib.Omega.{arith}
 use lib.ListN.{replicate}
-use Rattle.loops.specs.Loops.{fill}
-use Rattle.loops.proofs.Laws.{fill-none, fill-next, fill-done}
+use Rattle.folds.specs.Folds.{fill}
+use Rattle.folds.proofs.Laws.{fill-none, fill-next, fill-done}
 use Rattle.stairs.specs.Staircase.{placeAt, stepAt, noStep}
 use Rattle.stairs.proofs.Best.{best-low}
 use Rattle.stairs.proofs.Places.{place-none, place-next, step-is, near, steps-low, stairs-are}

@@ -3,8 +3,8 @@ use Prim.Native.Nat.{_-_, _≤_}
 use mathlib.Core.Path.{_≡_, refl}
 use native.Mathlib.Omega.{arith}
 use lib.Ieee.{binary64, add}
-use Rattle.loops.proofs.Laws.{fold-none, fold-next, fold-done}
-use Rattle.loops.specs.Loops.{foldTo}
+use Rattle.folds.proofs.Laws.{fold-none, fold-next, fold-done}
+use Rattle.folds.specs.Folds.{foldTo}
 use Rattle.complex.specs.Rounded.{fzero, _⊠_, _⊟_}
 use Rattle.stairs.specs.Line.{realOf, lineDist, square}
 use Rattle.stairs.proofs.line.line_dist.Statement.{statement}

@@ -6,8 +6,8 @@ use lib.ListN.{getD}
 use Rattle.complex.specs.declared.C64.{C64}
 use Rattle.mat.specs.Product.{rowCol}
 use Rattle.complex.specs.Complex.{cadd, cmul, czero, cnan}
-use Rattle.loops.specs.Loops.{foldTo}
-use Rattle.loops.proofs.Laws.{fold-none, fold-next, fold-done}
+use Rattle.folds.specs.Folds.{foldTo}
+use Rattle.folds.proofs.Laws.{fold-none, fold-next, fold-done}
 use Rattle.strength.proofs.densities.diagonal.Statement.{statement}
 use Rattle.strength.proofs.densities.diagonal.Tie as tie
 
