@@ -6,18 +6,19 @@ ghost use Rattle.geometry.specs.Radix.{volume};
 ghost use Rattle.gauge.specs.Field.{linkOf, Holds};
 ghost use Rattle.gauge.specs.Polyakov.{space, polyakovTrace, polyakovOf};
 
-// The trace of the line around time at the k-th place of space. Its sites have following numbers.
+// The trace of the line around time at the k-th place of space. Its sites have consecutive numbers; of
+// the last product only the diagonal is worked out.
 fn loop_trace(links: &[f64], d: [usize; 4], v: usize, k: usize) -> C64
     requires { ⌜ Holds d (now links) × (v ≡ volume d) × (k < volume (space d)) ⌝ }
     ensures { λ r. ⌜ r ≡ polyakovTrace d (linkOf d (now (links .entry))) k ⌝ }
 {
-    let nt = d[0];
-    let first = nt * k;
+    let last = d[0] - 1;
+    let first = d[0] * k;
     let mut p = Su3::IDENTITY;
-    for t in 0..nt {
+    for t in 0..last {
         p = p.mul(links::link(links, v, 0, first + t));
     }
-    p.trace()
+    products::trace_mul_by(p, links, links::place(v, 0, first + last))
 }
 
 // ⟨Tr Π U_0⟩ / 3 over all places of space.

@@ -4,7 +4,7 @@ use mat::Su3;
 ghost use mathlib.Core.Path.{_≡_};
 ghost use Prim.Native.Nat.{_+_, _<_, _≤_};
 ghost use lib.ListN.{length};
-ghost use Rattle.mat.specs.Matrix.{daggerOf};
+ghost use Rattle.mat.specs.Matrix.{daggerOf, traceOf};
 ghost use Rattle.mat.specs.Product.{rowCol, rowRow, colCol, mulOf, mulDagOf, dagMulOf};
 ghost use Rattle.links.specs.Store.{matrixAt, TwoMatrices};
 
@@ -173,4 +173,14 @@ pub fn mul_dag_by(a: Su3, links: &[f64], b: usize) -> Su3
         mul_dag_entry_by(a, links, b, 2, 2),
     ];
     Su3 { m }
+}
+
+// Tr a·b, where b stands at a place: of the product its diagonal alone.
+pub fn trace_mul_by(a: Su3, links: &[f64], b: usize) -> C64
+    requires { ⌜ b + 18 ≤ length (now links) ⌝ }
+    ensures { λ r. ⌜ r ≡ traceOf (mulOf a (matrixAt (now (links .entry)) b)) ⌝ }
+{
+    mul_entry_by(a, links, b, 0, 0)
+        .add(mul_entry_by(a, links, b, 1, 1))
+        .add(mul_entry_by(a, links, b, 2, 2))
 }
