@@ -1,9 +1,9 @@
 /* The C face of Jamjune: what libexport.a defines.
  *
  * Arrays and lists. An array points to as many elements as its brackets say. A list is a pointer and a length in
- * elements; the pointer must not be null and must be aligned, even where the length is 0. What is written (arrays named
- * out and out_*, a generator's state, a pass, a job or an accumulator that is not const, lists without const) must overlap no other
- * argument. Nothing is kept between calls.
+ * elements; the pointer must not be null and must be aligned, even where the length is 0. What is written must overlap
+ * no other argument: arrays named out and out_*, a generator's state, a pass, a job or an accumulator that is not const,
+ * lists without const. Nothing is kept between calls.
  *
  * A matrix is 18 doubles: nine complex numbers row by row, each real part first. A 2x2 block is 8 doubles likewise. A
  * complex number is 2 doubles. A quaternion a0 + i(a1 s1 + a2 s2 + a3 s3), with Pauli's matrices s, is the doubles a0 to
@@ -203,6 +203,9 @@ uint32_t jj_link_check(const size_t ext[4], const double *links, size_t n, uint3
  * frames: each of its links becomes its update from the field at opening, or keeps its bits if it is stuck there; all
  * other links keep theirs. */
 
+/* The places of a job's numbers; the extents stand from 0 on. */
+enum { JJ_JOB_DIRECTION = 4, JJ_JOB_PARITY = 5, JJ_JOB_VISITED = 6, JJ_JOB_STUCK = 7, JJ_JOB_PASS = 8, JJ_JOB_LEN = 9 };
+
 /* out = the update of the link u, where staple is its staples' sum. Row 9. */
 uint32_t jj_update_link(const double u[18], const double staple[18], double out[18]);
 
@@ -249,8 +252,8 @@ uint32_t jj_field_strength_at(const size_t ext[4], size_t site, const double *li
  * above from +0. Rows 1, 3, 10. */
 uint32_t jj_action_density(const size_t ext[4], const double *links, size_t n, double *density, size_t m);
 
-/* density = for each site in ascending order, 1 / (4 pi^2) times the real trace of F01 F23 - F02 F13 + F03 F12: summed
- * over a smooth field, about an integer. Rows 1, 3, 10. */
+/* density = for each site in ascending order, 8 / ((32 pi) pi), in f64, times the real trace of F01 F23 - F02 F13 +
+ * F03 F12: summed over a smooth field, about an integer. Rows 1, 3, 10. */
 uint32_t jj_topological_charge_density(const size_t ext[4], const double *links, size_t n, double *density, size_t m);
 
 /* density = for each site in ascending order, minus the real trace of F F in the plane of t and an axis of space: 0 for
@@ -262,7 +265,9 @@ uint32_t jj_electric_sq(const size_t ext[4], size_t axis, const double *links, s
  * A step is one byte: twice its axis, a direction, and 1 more where it goes forward. A quark's offset is three numbers
  * along x, y, z from the junction; three quarks' are nine, quark by quark. The staircase to an offset goes one step at a
  * time along an axis of space where something is left: the one whose step ends nearest to the straight line, in f64, and
- * of equally near ones the first. It has |dx| + |dy| + |dz| steps. */
+ * of equally near ones the first. It has |dx| + |dy| + |dz| steps.
+ *
+ * n is the length of links, room that of the list for steps, count the number of steps handed in. */
 
 /* The staircase to d: its steps go to the front of steps, later places stay; out_count = how many. Rows 11, 12. */
 uint32_t jj_staircase(const int32_t d[3], uint8_t *steps, size_t room, uint32_t out_count[1]);
@@ -288,7 +293,9 @@ uint32_t jj_baryon_loop(const size_t ext[4], size_t site, const int32_t offsets[
  * is refused as one too large. Row 3 here: density has densities times the field's sites, grid densities times nx ny nz,
  * scratch twice as many, and a correlation's list nx ny nz; in jj_correlation the count is the accumulator's.
  *
- * samples counts sites and stops at 2^64 - 1, at which nothing can be added any more. */
+ * samples counts sites and stops at 2^64 - 1, at which nothing can be added any more.
+ *
+ * n is the length of links, g that of grid, s that of scratch, m that of density or of a correlation's list. */
 
 /* A new accumulator: out_counts and out_sums with no samples and +0; every number of grid +0. Rows 1, 3, 11, 13. */
 uint32_t jj_new(const size_t grid_ext[3], const int32_t offsets[9], size_t t_len, uint32_t densities, double *grid, size_t g, uint64_t out_counts[6], double out_sums[5]);
@@ -297,17 +304,18 @@ uint32_t jj_new(const size_t grid_ext[3], const int32_t offsets[9], size_t t_len
  * as by jj_baryon_loop, and r an offset: grid's number for density k and r grows by the sum over all sites of W times the
  * density at r from there, at the time half the time length later, rounded down; w by the sum of W. These two are summed
  * slice by slice of equal time, each slice from +0 with x fastest, and the slices' sums added in the order of time. sk
- * grows by one sum of the density over all sites in the order of their numbers, from +0. Any number of times will do; x, y, z must be the grid's. scratch may
- * hold anything before, and is +0 after: accepted, or refused by row 10, where nothing else changes. Refused by another
- * row, nothing changes. Rows 1, 3, 11, 13, 10. */
+ * grows by one sum of the density over all sites in the order of their numbers, from +0. The field's x, y, z must be the
+ * grid's; its t may differ from call to call. scratch may hold anything before, and is +0 after: accepted, or refused by
+ * row 10, where nothing else changes. Refused by another row, nothing changes. Rows 1, 3, 11, 13, 10. */
 uint32_t jj_add(uint64_t counts[6], const int32_t offsets[9], double sums[5], const size_t ext[4], uint32_t densities, const double *links, size_t n,
                 const double *density, size_t m, double *grid, size_t g, double *scratch, size_t s);
 
 /* out = w / samples. Rows 1, 11, 13, 14, 10. */
 uint32_t jj_mean_loop(const uint64_t counts[6], const int32_t offsets[9], const double sums[5], double out[1]);
 
-/* list = for each offset r, the grid's number of density k over samples, over (w / samples) (sk / samples). Row 14 where that product
- * is 0: there is no correlation to be shown then. Refused, the list is as it was. Rows 1, 3, 11, 13, 14, 10. */
+/* list = for each offset r, the grid's number of density k over samples, over (w / samples) (sk / samples). Row 14 where
+ * that product is 0: there is no correlation to be shown then. Refused, the list is as it was. Rows 1, 3, 11, 13, 14,
+ * 10. */
 uint32_t jj_correlation(const uint64_t counts[6], const int32_t offsets[9], const double sums[5], uint32_t k, const double *grid, size_t g, double *list, size_t m);
 
 #endif
