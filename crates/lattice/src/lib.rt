@@ -19,7 +19,7 @@ pub use sites::index;
 pub use sites::n_sites;
 pub use sites::parity;
 
-// Extents t, x, y, z, coupling, and what keys the random streams.
+// The scope's plan: extents t, x, y, z, coupling, and what keys the random streams.
 pub struct Plan {
     pub extents: [usize; 4],
     pub coupling: f64,

@@ -1,4 +1,4 @@
--- The table of refusals: a call's rows are tried in order, and the first situation that holds gives the refusal's number.
+-- The scope's table of refusals: a call's rows are tried in order, and the first situation that holds gives the refusal's number.
 use Prim.Native.Nat.{ℕ, zero, suc}
 use mathlib.Core.Bool.{Bool, cond}
 use mathlib.Core.List.{List, [], _∷_}

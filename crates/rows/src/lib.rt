@@ -1,3 +1,4 @@
+// Answers that are a number or a refusal. A row is one of the scope's table of refusals, by its number.
 ghost use mathlib.Core.Path.{_≡_};
 ghost use lib.Ieee.Scale.{finite};
 ghost use Rattle.rows.specs.Answers.{countRefusal, countValue, numberRefusal, numberValue};

@@ -1,4 +1,4 @@
--- Sound links: what the link check looks for.
+-- Sound links, as the scope defines them: the link check lists those that are not.
 use Prim.Native.Nat.{ℕ, _*_, _/_, _%_}
 use mathlib.Core.Bool.{Bool, false, _&&_, Bool-discrete}
 use mathlib.Core.List.{List, Perm, filter}

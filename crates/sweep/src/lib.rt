@@ -12,8 +12,8 @@ pub use opening::open_overrelax;
 pub use single::overrelax_link;
 pub use single::update_link;
 
-// A half-sweep under way: the links of one direction at the first `visited` sites of one parity have
-// been updated or, where stuck, kept.
+// The scope's job, a half-sweep under way: the links of one direction at the first `visited` sites of
+// one parity have been updated or, where stuck, kept.
 pub struct Job {
     pub extents: [usize; 4],
     pub direction: usize,
@@ -31,7 +31,7 @@ pub struct Opened {
     pub plan: Plan,
 }
 
-// The job after a frame, and 0; or the row that refuses the call, and the job as it was.
+// The job after a frame, the visits of one call, and 0; or the row that refuses the call, and the job as it was.
 pub struct Framed {
     pub refusal: u32,
     pub job: Job,

@@ -14,7 +14,7 @@ ghost use Rattle.quat.specs.Subgroup.{subBlock};
 ghost use Rattle.gauge.specs.Field.{linkOf, Link};
 ghost use Rattle.update.specs.Update.{isStuck, stuckLink, isShort, reflectionOf, ifFinite, throughSubgroups, updateLinkOf, updateOf};
 
-// Whether an update left its link alone, and why.
+// Whether a link is stuck, as the scope says, and why: it then has no update.
 pub enum Stuck {
     No,
     ShortNorm,
