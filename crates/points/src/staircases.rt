@@ -1,6 +1,6 @@
 use crate::Tally;
+use baryon::Step;
 use rows::Count;
-use stairs::Step;
 
 // The steps as the digits of a number: twice the axis, and 1 more where it goes forward.
 fn digits(steps: [Step; 96], count: usize) -> u64 {
