@@ -21,9 +21,9 @@
 use super::{SEED, hash::Hash, over};
 use crate::calls::{self, CLOVER_LEAVES, FIELD_STRENGTH_AT, STOUT_LINK};
 use crate::face::Four;
-use crate::fields::{self, Kind};
 use crate::flat;
 use crate::ground::Lists;
+use crate::kinds::{self, Kind};
 use crate::rows::{self, Arguments};
 use std::fmt::{Result, Write};
 
@@ -44,18 +44,16 @@ const MORE: (&str, [f64; 8]) = (
 );
 
 pub fn lines(to: &mut String) -> Result {
-    fields::sampled()
-        .iter()
-        .try_for_each(|kind| field(to, kind))
+    kinds::sampled().iter().try_for_each(|kind| field(to, kind))
 }
 
 fn field(to: &mut String, kind: &Kind) -> Result {
-    let links = fields::links(kind, EXTENTS, SEED);
+    let links = kinds::links(kind, EXTENTS, SEED);
     let lattice = &mut flat::lattice(EXTENTS, &links);
-    let lent = Lists::new(links.clone(), vec![]).lend();
+    let padded = Lists::new(links.clone(), vec![]).padded();
     let a = Arguments {
         rho: RHO,
-        ..by_ref.arguments(EXTENTS, links.len(), 0)
+        ..padded.arguments(EXTENTS, links.len(), 0)
     };
     let sites = || (0..a.sites()).map(|site| Arguments { site, ..a });
     let directions = || sites().flat_map(|a| (0..4).map(move |mu| Arguments { mu, ..a }));

@@ -3,8 +3,8 @@
 
 use super::reference::su3::lattice as whole;
 use crate::face::{self, Four};
-use crate::fields::{self, KINDS};
 use crate::flat;
+use crate::kinds::{self, KINDS};
 use crate::reference::su3::lattice::Su3Lattice;
 use crate::reference::su3::mat::Su3;
 use crate::stopwatch::Row;
@@ -32,8 +32,8 @@ type Pass = fn(&Field) -> u64;
 
 impl Field {
     fn new(ext: Four) -> Self {
-        let group = &KINDS[fields::number_of("group")];
-        let plain = fields::links(group, ext, 1);
+        let group = &KINDS[kinds::number_of("group")];
+        let plain = kinds::links(group, ext, 1);
         Self {
             ext,
             sites: ext.iter().product(),
