@@ -4,7 +4,9 @@
 //! each from the lowest; the word of an f64 is its pattern, of a NaN 7ff8000000000000. Hashes and
 //! f64 are 16 hex digits, counts and refusals decimal. S is 20261115.
 //!
-//! Arithmetic, first with the set `raw`, then with `units`: 21 lines
+//! Complex numbers come first: their file has their lines.
+//!
+//! Matrices, first with the set `raw`, then with `units`: 21 lines
 //!
 //!     SET CALL HASH
 //!
@@ -49,6 +51,7 @@
 //! paths, loops and accumulators: their files have their lines.
 
 mod baryon;
+mod complex;
 mod fields;
 mod hash;
 mod sweep;
@@ -84,6 +87,7 @@ pub fn lines() -> String {
 }
 
 fn all(to: &mut String) -> std::fmt::Result {
+    complex::lines(to)?;
     arithmetic(to)?;
     for ext in EXTENTS {
         geometry(to, ext)?;
