@@ -94,7 +94,7 @@ fn rust_plaquette(lattice: &Su3Lattice, site: usize, [mu, nu]: [usize; 2]) -> Su
 
 fn staples(field: &Field) -> u64 {
     (0..field.sites).fold(0, |sum, site| {
-        let (_, out) = face::staple(&field.ext, 6.0, site, site % 4, &field.lent);
+        let (_, out) = face::staple(&field.ext, 6.0, [site, site % 4], &field.lent);
         sum ^ out[0].to_bits()
     })
 }
