@@ -46,7 +46,7 @@ fn text(input: &[u8]) -> String {
     match extents(input) {
         Ok(ext) => {
             let mut lines = String::new();
-            findings(&mut lines, ext).expect("a string takes any text");
+            measurements(&mut lines, ext).expect("a string takes any text");
             lines
         }
         Err(row) => format!("refused {row}\n"),
@@ -65,7 +65,7 @@ fn extents(input: &[u8]) -> Result<Four, u32> {
     }
 }
 
-fn findings(to: &mut String, ext: Four) -> fmt::Result {
+fn measurements(to: &mut String, ext: Four) -> fmt::Result {
     let lattice = Su3Lattice::cold(ext, COUPLING, 0);
     let polyakov = lattice.polyakov_loop();
     let baryon = lattice.baryon_loop(0, &QUARKS.map(staircase), TIME_LENGTH);
