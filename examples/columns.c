@@ -1,6 +1,6 @@
 /* What the cabinet prints, through the C face of Jamjune: the extents t, x, y, z come as four bytes on standard input,
- * and the findings on a cold field go to standard output, a name and a value to a line. Where the input is refused, the
- * one line is "refused" and the number of the row. At the repository's root, once `rt staticlib export` has written
+ * and the measurements of a cold field go to standard output, a name and a value to a line. Where the input is refused,
+ * the one line is "refused" and the number of the row. At the repository's root, once `rt staticlib export` has written
  * libexport.a:
  *
  *     cc -std=c99 -Wall -Wextra -Wpedantic -Werror -Iinclude examples/columns.c target/staticlib/libexport.a -o target/columns-c
@@ -16,8 +16,8 @@
 enum {
     INPUT_ROW = 15, /* this program's own: not four bytes, or more sites than it has room for */
     MOST_SITES = 64,
-    NUMBERS = 72, /* of the links, for each site */
-    FRAMES = 3,
+    NUMBERS_PER_SITE = 72, /* of the links */
+    PRINTED = 3, /* frames */
     VISITED = 6, /* places in a job */
     STUCK = 7
 };
@@ -26,16 +26,16 @@ static const double coupling = 6.0;
 static const uint64_t seed = 0; /* a cold field and overrelaxation draw nothing: any will do */
 static const int32_t quarks[9] = {1, 0, 0, 0, 1, 0, 0, 0, 1};
 static const size_t time_length = 2;
-static const size_t sizes[FRAMES] = {3, 0, 9};
-static const size_t frame = 8; /* as many sites as the time between two pictures allows */
+static const size_t printed_sizes[PRINTED] = {3, 0, 9};
+static const size_t frame_size = 8; /* as many sites as the time between two pictures allows */
 
 /* The library keeps no memory and asks for none: what a call works on is lent to it. */
-static double links[NUMBERS * MOST_SITES];
+static double links[NUMBERS_PER_SITE * MOST_SITES];
 
-struct findings {
+struct measurements {
     size_t sites;
     double plaquette, action, loop[2], baryon;
-    uint64_t visited[FRAMES], stuck;
+    uint64_t visited[PRINTED], stuck;
 };
 
 /* Every function below that returns uint32_t returns a row, 0 for none, as the library's calls do. */
@@ -54,51 +54,51 @@ static uint32_t read_extents(size_t ext[4])
     return count == 4 ? 0 : INPUT_ROW;
 }
 
-static uint32_t measure(const size_t ext[4], size_t n, struct findings *f)
+static uint32_t measure_field(const size_t ext[4], size_t n, struct measurements *m)
 {
     uint32_t row;
-    if ((row = jj_average_plaquette(ext, links, n, &f->plaquette)) != 0
-        || (row = jj_action(ext, coupling, links, n, &f->action)) != 0
-        || (row = jj_polyakov_loop(ext, links, n, f->loop)) != 0)
+    if ((row = jj_average_plaquette(ext, links, n, &m->plaquette)) != 0
+        || (row = jj_action(ext, coupling, links, n, &m->action)) != 0
+        || (row = jj_polyakov_loop(ext, links, n, m->loop)) != 0)
         return row;
-    return jj_baryon_loop(ext, 0, quarks, time_length, links, n, &f->baryon);
+    return jj_baryon_loop(ext, 0, quarks, time_length, links, n, &m->baryon);
 }
 
 /* One half-sweep, direction 0, parity 0. Nothing else may write to the links before it is finished. */
-static uint32_t half_sweep(const size_t ext[4], size_t n, struct findings *f)
+static uint32_t half_sweep(const size_t ext[4], size_t n, struct measurements *m)
 {
     uint64_t pass[1] = {0}; /* of the field: every opening moves it on, so keep it from one half-sweep to the next */
     uint64_t job[9];
     uint32_t row, finished[1];
     if ((row = jj_open_overrelax(ext, coupling, seed, pass, 0, 0, job)) != 0)
         return row;
-    for (int i = 0; i < FRAMES; i++) {
-        if ((row = jj_frame_overrelax(job, sizes[i], links, n)) != 0)
+    for (int i = 0; i < PRINTED; i++) {
+        if ((row = jj_frame_overrelax(job, printed_sizes[i], links, n)) != 0)
             return row;
-        f->visited[i] = job[VISITED];
+        m->visited[i] = job[VISITED];
     }
-    f->stuck = job[STUCK];
+    m->stuck = job[STUCK];
 
     /* To its end, as a host does it: a frame, a picture, a frame. The last frame may have fewer sites left. */
     while ((row = jj_finished(job, finished)) == 0 && !finished[0]) {
-        if ((row = jj_frame_overrelax(job, frame, links, n)) != 0)
+        if ((row = jj_frame_overrelax(job, frame_size, links, n)) != 0)
             return row;
     }
     return row;
 }
 
-static uint32_t find(struct findings *f)
+static uint32_t measure(struct measurements *m)
 {
     size_t ext[4], n;
     uint32_t row;
-    if ((row = read_extents(ext)) != 0 || (row = jj_n_sites(ext, &f->sites)) != 0)
+    if ((row = read_extents(ext)) != 0 || (row = jj_n_sites(ext, &m->sites)) != 0)
         return row;
-    if (f->sites > MOST_SITES)
+    if (m->sites > MOST_SITES)
         return INPUT_ROW;
-    n = NUMBERS * f->sites;
-    if ((row = jj_cold(ext, coupling, seed, links, n)) != 0 || (row = measure(ext, n, f)) != 0)
+    n = NUMBERS_PER_SITE * m->sites;
+    if ((row = jj_cold(ext, coupling, seed, links, n)) != 0 || (row = measure_field(ext, n, m)) != 0)
         return row;
-    return half_sweep(ext, n, f);
+    return half_sweep(ext, n, m);
 }
 
 static void print_bits(const char *name, double x)
@@ -108,23 +108,23 @@ static void print_bits(const char *name, double x)
     printf("%s %016" PRIx64 "\n", name, bits);
 }
 
-static void print(const struct findings *f)
+static void print(const struct measurements *m)
 {
-    printf("sites %zu\n", f->sites);
-    print_bits("plaquette", f->plaquette);
-    print_bits("action", f->action);
-    print_bits("loop-re", f->loop[0]);
-    print_bits("loop-im", f->loop[1]);
-    print_bits("baryon", f->baryon);
-    for (int i = 0; i < FRAMES; i++)
-        printf("frame-%zu %" PRIu64 "\n", sizes[i], f->visited[i]);
-    printf("stuck %" PRIu64 "\n", f->stuck);
+    printf("sites %zu\n", m->sites);
+    print_bits("plaquette", m->plaquette);
+    print_bits("action", m->action);
+    print_bits("loop-re", m->loop[0]);
+    print_bits("loop-im", m->loop[1]);
+    print_bits("baryon", m->baryon);
+    for (int i = 0; i < PRINTED; i++)
+        printf("frame-%zu %" PRIu64 "\n", printed_sizes[i], m->visited[i]);
+    printf("stuck %" PRIu64 "\n", m->stuck);
 }
 
 int main(void)
 {
-    static struct findings findings;
-    uint32_t row = find(&findings); /* all of it before the first line: a refusal stands alone */
+    static struct measurements measurements;
+    uint32_t row = measure(&measurements); /* all of it before the first line: a refusal stands alone */
     if (ferror(stdin)) {
         fputs("columns: standard input failed\n", stderr);
         return 1;
@@ -132,6 +132,6 @@ int main(void)
     if (row != 0)
         printf("refused %" PRIu32 "\n", row);
     else
-        print(&findings);
+        print(&measurements);
     return fflush(stdout) == 0 && !ferror(stdout) ? 0 : 1;
 }

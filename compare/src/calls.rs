@@ -129,7 +129,7 @@ pub const STAPLE: Call = Call {
     name: "jj_staple",
     takes: &[Extents, Coupling, Links, Site, Direction],
     width: 18,
-    rattle: |a| numbers(face::staple(&a.ext, a.coupling, a.site, a.mu, a.links)),
+    rattle: |a| numbers(face::staple(&a.ext, a.coupling, [a.site, a.mu], a.links)),
     rust: |a, lattice| checked(&flat::numbers(&lattice.staple(a.site, a.mu))),
     keeps: None,
     writes: None,

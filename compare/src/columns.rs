@@ -46,7 +46,7 @@ fn text(input: &[u8]) -> String {
     match extents(input) {
         Ok(ext) => {
             let mut lines = String::new();
-            findings(&mut lines, ext).expect("a string takes any text");
+            measurements(&mut lines, ext).expect("a string takes any text");
             lines
         }
         Err(row) => format!("refused {row}\n"),
@@ -56,8 +56,8 @@ fn text(input: &[u8]) -> String {
 /// Or the row that refuses the input: the count of bytes is tried first, then row 1, then the sites.
 fn extents(input: &[u8]) -> Result<Four, u32> {
     let bytes: [u8; 4] = input.try_into().map_err(|_| 15u32)?;
-    let lent = Lists::new(vec![], vec![]).lend();
-    let a = lent.arguments(bytes.map(usize::from), 0, 0);
+    let padded = Lists::new(vec![], vec![]).padded();
+    let a = padded.arguments(bytes.map(usize::from), 0, 0);
     match rows::refusal(N_SITES.takes, &a) {
         0 if a.sites() > MOST_SITES => Err(15),
         0 => Ok(a.ext),
@@ -65,7 +65,7 @@ fn extents(input: &[u8]) -> Result<Four, u32> {
     }
 }
 
-fn findings(to: &mut String, ext: Four) -> fmt::Result {
+fn measurements(to: &mut String, ext: Four) -> fmt::Result {
     let lattice = Su3Lattice::cold(ext, COUPLING, 0);
     let polyakov = lattice.polyakov_loop();
     let baryon = lattice.baryon_loop(0, &QUARKS.map(staircase), TIME_LENGTH);

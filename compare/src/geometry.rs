@@ -62,8 +62,8 @@ pub fn crossed(sides: &[usize]) -> impl Iterator<Item = Four> {
 /// Against the product of the extents, with no lattice made for it.
 fn n_sites(tally: &mut Tally, ext: Four) {
     let (refusal, [sites]) = face::n_sites(&ext);
-    let lent = Lists::new(vec![], vec![]).lend();
-    let a = lent.arguments(ext, 0, 0);
+    let padded = Lists::new(vec![], vec![]).padded();
+    let a = padded.arguments(ext, 0, 0);
     let rust = match rows::refusal(N_SITES.takes, &a) {
         0 => answer(0, [a.sites() as u64]),
         row => answer(row, [0]),
@@ -79,18 +79,18 @@ fn n_sites(tally: &mut Tally, ext: Four) {
 
 fn everywhere(tally: &mut Tally, ext: Four) {
     let lists = Lists::new(vec![], vec![]);
-    let lent = lists.lend();
+    let padded = lists.padded();
     let mut ground = Ground::bare(ext, lists);
-    let plain = lent.arguments(ext, 0, 0);
-    ground.check(tally, &N_SITES, &plain, &lent);
+    let plain = padded.arguments(ext, 0, 0);
+    ground.check(tally, &N_SITES, &plain, &padded);
     for site in 0..plain.sites() {
         let at = ground.lattice.coords(site);
         for call in [&COORDS, &INDEX, &PARITY] {
-            ground.check(tally, call, &Arguments { site, at, ..plain }, &lent);
+            ground.check(tally, call, &Arguments { site, at, ..plain }, &padded);
         }
         for mu in 0..4 {
             for call in [&FWD, &BWD] {
-                ground.check(tally, call, &Arguments { site, mu, ..plain }, &lent);
+                ground.check(tally, call, &Arguments { site, mu, ..plain }, &padded);
             }
         }
     }

@@ -4,7 +4,7 @@
 
 mod lists;
 
-pub use lists::{BEFORE, Lent, Lists, UNCHANGED, changed};
+pub use lists::{BEFORE, Lists, Padded, UNCHANGED, changed};
 
 use crate::calls::Call;
 use crate::face::Four;
@@ -43,13 +43,20 @@ impl Ground {
     }
 
     /// Makes the call and checks it by the rows and the reference. The lists are then as before.
-    pub fn check(&mut self, tally: &mut Tally, call: &Call, a: &Arguments, lent: &Lent) {
+    pub fn check(&mut self, tally: &mut Tally, call: &Call, a: &Arguments, padded: &Padded) {
         let rust = call.expected(a, &mut self.lattice);
-        self.hold(tally, call, a, lent, rust);
+        self.hold(tally, call, a, padded, rust);
     }
 
     /// The same by an answer that is known.
-    pub fn hold(&self, tally: &mut Tally, call: &Call, a: &Arguments, lent: &Lent, rust: Words) {
+    pub fn hold(
+        &self,
+        tally: &mut Tally,
+        call: &Call,
+        a: &Arguments,
+        padded: &Padded,
+        rust: Words,
+    ) {
         let written = call
             .writes
             .filter(|_| call.writes_at(rust[0]))
@@ -58,7 +65,7 @@ impl Ground {
                 write(a, &self.lattice, &mut lists);
                 lists
             });
-        self.settle(tally, call, a, lent, rust, written);
+        self.settle(tally, call, a, padded, rust, written);
     }
 
     /// The same by what is known of the second list: the numbers to be stored, which row 10 checks.
@@ -68,7 +75,7 @@ impl Ground {
         tally: &mut Tally,
         call: &Call,
         a: &Arguments,
-        lent: &Lent,
+        padded: &Padded,
         numbers: &[f64],
     ) {
         let refused = rows::not_finite(numbers);
@@ -78,7 +85,7 @@ impl Ground {
             lists
         });
         let rust = answer(if refused { 10 } else { 0 }, []);
-        self.settle(tally, call, a, lent, rust, written);
+        self.settle(tally, call, a, padded, rust, written);
     }
 
     /// Makes the call and compares. Places of the lists that are not as they should be are counted at
@@ -88,23 +95,23 @@ impl Ground {
         tally: &mut Tally,
         call: &Call,
         a: &Arguments,
-        lent: &Lent,
+        padded: &Padded,
         mut rust: Words,
         written: Option<Lists>,
     ) {
         let mut rattle = (call.rattle)(a);
-        let changed = changed(lent, written.as_ref().unwrap_or(&self.before));
+        let changed = changed(padded, written.as_ref().unwrap_or(&self.before));
         rattle.extend(changed);
         rust.extend(UNCHANGED);
         tally.check(call.name, &self.inputs(a), &rattle, &rust);
         if written.is_some() || changed != UNCHANGED {
-            self.restore(lent);
+            self.restore(padded);
         }
     }
 
     /// The lists as before each call.
-    pub fn restore(&self, lent: &Lent) {
-        lent.set(&self.before);
+    pub fn restore(&self, padded: &Padded) {
+        padded.set(&self.before);
     }
 
     /// In the order in which they are named here, the coordinates after the site, a whole job before

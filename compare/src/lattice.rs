@@ -2,9 +2,9 @@
 
 use crate::calls::{ACTION, AVERAGE_PLAQUETTE, COLD, LINK_CHECK, PLAQUETTE, POLYAKOV_LOOP, STAPLE};
 use crate::face::Four;
-use crate::fields::{self, KINDS, Kind};
-use crate::ground::{Ground, Lent, Lists};
+use crate::ground::{Ground, Lists, Padded};
 use crate::inputs::Source;
+use crate::kinds::{self, KINDS, Kind};
 use crate::rows::Arguments;
 use crate::tally::Tally;
 
@@ -61,15 +61,15 @@ pub fn compare(tally: &mut Tally) {
 }
 
 fn field(tally: &mut Tally, source: &mut Source, kind: &Kind, label: [u64; 2], ext: Four) {
-    let links = fields::links(kind, ext, label[1]);
+    let links = kinds::links(kind, ext, label[1]);
     let lists = Lists::new(links.clone(), vec![]);
-    let lent = lists.lend();
-    let a = lent.arguments(ext, links.len(), 0);
+    let padded = lists.padded();
+    let a = padded.arguments(ext, links.len(), 0);
     let mut ground = Ground::new(label, ext, lists);
     for link in places(source, a.sites()) {
-        around(tally, &mut ground, &a, &lent, link);
+        around(tally, &mut ground, &a, &padded, link);
     }
-    whole(tally, source, &mut ground, &a, &lent);
+    whole(tally, source, &mut ground, &a, &padded);
     checks(tally, source, label, ext, &links);
 }
 
@@ -85,7 +85,13 @@ fn places(source: &mut Source, sites: usize) -> Vec<[usize; 2]> {
 }
 
 /// The staple of a link, and its planes with every direction, its own too.
-fn around(tally: &mut Tally, ground: &mut Ground, a: &Arguments, lent: &Lent, link: [usize; 2]) {
+fn around(
+    tally: &mut Tally,
+    ground: &mut Ground,
+    a: &Arguments,
+    padded: &Padded,
+    link: [usize; 2],
+) {
     let [mu, site] = link;
     let coupling = COUPLINGS[site % COUPLINGS.len()];
     let a = Arguments {
@@ -94,27 +100,33 @@ fn around(tally: &mut Tally, ground: &mut Ground, a: &Arguments, lent: &Lent, li
         coupling,
         ..*a
     };
-    ground.check(tally, &STAPLE, &a, lent);
+    ground.check(tally, &STAPLE, &a, padded);
     for nu in 0..4 {
-        ground.check(tally, &PLAQUETTE, &Arguments { nu, ..a }, lent);
+        ground.check(tally, &PLAQUETTE, &Arguments { nu, ..a }, padded);
     }
 }
 
 /// The calls that go over the whole field.
-fn whole(tally: &mut Tally, source: &mut Source, ground: &mut Ground, a: &Arguments, lent: &Lent) {
-    ground.check(tally, &AVERAGE_PLAQUETTE, a, lent);
-    ground.check(tally, &POLYAKOV_LOOP, a, lent);
+fn whole(
+    tally: &mut Tally,
+    source: &mut Source,
+    ground: &mut Ground,
+    a: &Arguments,
+    padded: &Padded,
+) {
+    ground.check(tally, &AVERAGE_PLAQUETTE, a, padded);
+    ground.check(tally, &POLYAKOV_LOOP, a, padded);
     // Some with many digits: the order of the factors shows only with such.
     let drawn = [(); 4].map(|()| 50.0 + 50.0 * source.ordinary());
     for coupling in COUPLINGS.into_iter().chain(drawn) {
-        ground.check(tally, &ACTION, &Arguments { coupling, ..*a }, lent);
+        ground.check(tally, &ACTION, &Arguments { coupling, ..*a }, padded);
     }
     let fresh = Arguments {
         coupling: drawn[0],
         seed: source.word(),
         ..*a
     };
-    ground.check(tally, &COLD, &fresh, lent);
+    ground.check(tally, &COLD, &fresh, padded);
 }
 
 /// The link check with several rooms: enough, more, too little; and contents before it.
@@ -124,11 +136,11 @@ fn checks(tally: &mut Tally, source: &mut Source, label: [u64; 2], ext: Four, li
     let any = (0..most).map(|_| source.word() as u32).collect();
     for found in [vec![0; most], vec![u32::MAX; most], any] {
         let lists = Lists::new(links.to_vec(), found);
-        let lent = lists.lend();
+        let padded = lists.padded();
         let mut ground = Ground::new(label, ext, lists);
         for room in [enough, enough + 1, most, enough - 1, 0] {
-            let a = lent.arguments(ext, links.len(), room);
-            ground.check(tally, &LINK_CHECK, &a, &lent);
+            let a = padded.arguments(ext, links.len(), room);
+            ground.check(tally, &LINK_CHECK, &a, &padded);
         }
     }
 }

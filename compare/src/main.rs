@@ -14,9 +14,9 @@ mod fields;
 mod flat;
 mod generator;
 mod geometry;
-mod gluons;
 mod ground;
 mod inputs;
+mod kinds;
 mod lattice;
 mod mat;
 mod reference;
@@ -48,7 +48,7 @@ const GROUPS: [Group; 12] = [
     ("geometry", geometry::compare),
     ("lattice", lattice::compare),
     ("sweep", sweep::compare),
-    ("fields", gluons::compare),
+    ("fields", fields::compare),
     ("baryon", baryon::compare),
     ("refusals", refusals::compare),
     ("replay", stored::replay),

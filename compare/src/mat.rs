@@ -196,7 +196,7 @@ fn of_matrix(m: Su3) -> Words {
     words(&flat::numbers(&m))
 }
 
-fn of_complex(c: C64) -> Words {
+pub fn of_complex(c: C64) -> Words {
     words(&[c.re, c.im])
 }
 

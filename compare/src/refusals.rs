@@ -7,8 +7,8 @@ mod situations;
 
 use crate::calls::{CALLS, Call, OVERRELAX_LINK};
 use crate::face::Four;
-use crate::fields::{self, KINDS};
-use crate::ground::{BEFORE, Ground, Lent, Lists};
+use crate::ground::{BEFORE, Ground, Lists, Padded};
+use crate::kinds::{self, KINDS};
 use crate::rows::{Arguments, Job, Part};
 use crate::tally::Tally;
 
@@ -160,7 +160,7 @@ pub fn compare(tally: &mut Tally) {
         let mut bench = Bench::new(name);
         for call in &CALLS {
             bench.examples(tally, call);
-            situations::compare(tally, &bench.grounds[0], call, &bench.lent);
+            situations::compare(tally, &bench.grounds[0], call, &bench.padded);
             bench.crossed(tally, call);
         }
     }
@@ -170,40 +170,40 @@ pub fn compare(tally: &mut Tally) {
 struct Bench {
     kind: &'static str,
     grounds: [Ground; 2],
-    lent: Lent,
+    padded: Padded,
 }
 
 impl Bench {
     fn new(kind: &'static str) -> Self {
-        let number = fields::number_of(kind);
-        let links = fields::links(&KINDS[number], GOOD[1], 1);
+        let number = kinds::number_of(kind);
+        let links = kinds::links(&KINDS[number], GOOD[1], 1);
         let lists = Lists::new(links, vec![u32::MAX; FOUND])
             .and_steps(baryon::steps())
             .and_flux(vec![BEFORE; SECOND], vec![BEFORE; baryon::GRID]);
         let label = [number as u64, 1];
         Self {
             kind,
-            lent: lists.lend(),
+            padded: lists.padded(),
             grounds: GOOD.map(|ext| Ground::new(label, ext, lists.clone())),
         }
     }
 
     /// With the numbers written here, and not by the rows.
     fn examples(&self, tally: &mut Tally, call: &Call) {
-        let (ground, lent) = (&self.grounds[0], &self.lent);
-        let good = good(call, lent);
+        let (ground, padded) = (&self.grounds[0], &self.padded);
+        let good = good(call, padded);
         for (row, part, spoil) in EXAMPLES {
             if call.takes.contains(&part) {
                 let mut a = good;
                 spoil(&mut a);
-                ground.hold(tally, call, &a, lent, call.refused(row, &a));
+                ground.hold(tally, call, &a, padded, call.refused(row, &a));
             }
         }
         if self.kind == "nan" && ANSWER_NUMBERS.contains(&call.name) {
-            ground.hold(tally, call, &good, lent, call.refused(10, &good));
+            ground.hold(tally, call, &good, padded, call.refused(10, &good));
         }
         if self.kind == "nan" && call.name == OVERRELAX_LINK.name {
-            ground.hold(tally, call, &good, lent, call.refused(9, &good));
+            ground.hold(tally, call, &good, padded, call.refused(9, &good));
         }
     }
 
@@ -222,30 +222,30 @@ impl Bench {
 
     /// All choices for these parts.
     fn each(&mut self, tally: &mut Tally, call: &Call, parts: &[Part]) {
-        let lent = &self.lent;
-        let all = parts.iter().fold(vec![good(call, lent)], |all, &part| {
-            all.iter().flat_map(|a| variants(part, a, lent)).collect()
+        let padded = &self.padded;
+        let all = parts.iter().fold(vec![good(call, padded)], |all, &part| {
+            all.iter().flat_map(|a| variants(part, a, padded)).collect()
         });
         for a in all {
             let second = a.ext == GOOD[1];
-            self.grounds[usize::from(second)].check(tally, call, &a, lent);
+            self.grounds[usize::from(second)].check(tally, call, &a, padded);
         }
     }
 }
 
 /// Arguments that are good under the first extents.
-fn good<'a>(call: &Call, lent: &'a Lent) -> Arguments<'a> {
-    let a = baryon::two_densities(lent.arguments(GOOD[0], 1152, 64));
-    baryon::fitted(a, call, lent)
+fn good<'a>(call: &Call, padded: &'a Padded) -> Arguments<'a> {
+    let a = baryon::two_densities(padded.arguments(GOOD[0], 1152, 64));
+    baryon::fitted(a, call, padded)
 }
 
 /// The arguments with each choice for one part.
-fn variants<'a>(part: Part, a: &Arguments<'a>, lent: &'a Lent) -> Vec<Arguments<'a>> {
+fn variants<'a>(part: Part, a: &Arguments<'a>, padded: &'a Padded) -> Vec<Arguments<'a>> {
     match part {
         Part::Extents => extents().map(|ext| Arguments { ext, ..*a }).collect(),
         Part::Coupling => of(COUPLINGS, |coupling| Arguments { coupling, ..*a }),
         Part::Links => of(LENGTHS, |n| Arguments {
-            links: &lent.links[..n],
+            links: &padded.links[..n],
             ..*a
         }),
         Part::Site => of(SITES, |site| Arguments { site, ..*a }),
@@ -257,20 +257,20 @@ fn variants<'a>(part: Part, a: &Arguments<'a>, lent: &'a Lent) -> Vec<Arguments<
         Part::Job => of(JOBS, |job| Arguments { job, ..*a }),
         Part::Size => of(SIZES, |size| Arguments { size, ..*a }),
         Part::Room => of(ROOMS, |n| Arguments {
-            found: &lent.found[..n],
+            found: &padded.found[..n],
             ..*a
         }),
         Part::Rho => of(RHOS, |rho| Arguments { rho, ..*a }),
         Part::Axis => of(AXES, |axis| Arguments { axis, ..*a }),
         Part::Smeared => of(SMEARED, |n| Arguments {
-            second: &lent.second[..n],
+            second: &padded.second[..n],
             ..*a
         }),
         Part::Density => of(DENSITIES, |n| Arguments {
-            second: &lent.second[..n],
+            second: &padded.second[..n],
             ..*a
         }),
-        _ => baryon::variants(part, a, lent),
+        _ => baryon::variants(part, a, padded),
     }
 }
 

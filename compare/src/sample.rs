@@ -4,7 +4,9 @@
 //! each from the lowest; the word of an f64 is its pattern, of a NaN 7ff8000000000000. Hashes and
 //! f64 are 16 hex digits, counts and refusals decimal. S is 20261115.
 //!
-//! Arithmetic, first with the set `raw`, then with `units`: 21 lines
+//! Complex numbers come first: their file has their lines.
+//!
+//! Matrices, first with the set `raw`, then with `units`: 21 lines
 //!
 //!     SET CALL HASH
 //!
@@ -49,6 +51,7 @@
 //! paths, loops and accumulators: their files have their lines.
 
 mod baryon;
+mod complex;
 mod fields;
 mod hash;
 mod sweep;
@@ -58,9 +61,9 @@ use crate::calls::{
     unsound,
 };
 use crate::face::{Four, Mat};
-use crate::fields::{self as kinds, Kind};
 use crate::flat;
 use crate::ground::Lists;
+use crate::kinds::{self, Kind};
 use crate::mat::{self, Pair};
 use crate::reference::su3::lattice::Su3Lattice;
 use crate::reference::su3::rng::Rng;
@@ -84,6 +87,7 @@ pub fn lines() -> String {
 }
 
 fn all(to: &mut String) -> std::fmt::Result {
+    complex::lines(to)?;
     arithmetic(to)?;
     for ext in EXTENTS {
         geometry(to, ext)?;
@@ -113,9 +117,9 @@ fn arithmetic(to: &mut String) -> std::fmt::Result {
 }
 
 fn geometry(to: &mut String, ext: Four) -> std::fmt::Result {
-    let lent = Lists::new(vec![], vec![]).lend();
+    let padded = Lists::new(vec![], vec![]).padded();
     let lattice = &mut Su3Lattice::cold(ext, COUPLING, 0);
-    let a = lent.arguments(ext, 0, 0);
+    let a = padded.arguments(ext, 0, 0);
     let sites = || (0..a.sites()).map(|site| Arguments { site, ..a });
     let directions = || sites().flat_map(|a| (0..4).map(move |mu| Arguments { mu, ..a }));
     let [t, x, y, z] = ext;
@@ -133,10 +137,10 @@ fn geometry(to: &mut String, ext: Four) -> std::fmt::Result {
 fn field(to: &mut String, kind: &Kind, ext: Four) -> std::fmt::Result {
     let links = kinds::links(kind, ext, SEED);
     let lattice = &mut flat::lattice(ext, &links);
-    let lent = Lists::new(links.clone(), vec![]).lend();
+    let padded = Lists::new(links.clone(), vec![]).padded();
     let a = Arguments {
         coupling: COUPLING,
-        ..by_ref.arguments(ext, links.len(), 0)
+        ..padded.arguments(ext, links.len(), 0)
     };
     let sites = || (0..a.sites()).map(|site| Arguments { site, ..a });
     let planes = sites().flat_map(|a| PLANES.map(|[mu, nu]| Arguments { mu, nu, ..a }));

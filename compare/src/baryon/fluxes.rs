@@ -2,11 +2,11 @@
 //! different extents in time. The unchanged Rust's accumulator goes along.
 
 use crate::calls::{ADD, Added, CORRELATION, Call, MEAN_LOOP, NEW, checked};
-use crate::fields::{self, KINDS};
+use crate::fields;
 use crate::flat;
-use crate::gluons;
 use crate::ground::{BEFORE, Ground, Lists};
 use crate::inputs::Source;
+use crate::kinds::{self, KINDS};
 use crate::reference::su3::baryon::FluxAccumulator;
 use crate::reference::su3::lattice::Su3Lattice;
 use crate::rows::{self, Arguments, Flux};
@@ -53,7 +53,7 @@ pub fn compare(tally: &mut Tally, source: &mut Source) {
         }
     }
     for (name, n, count, times) in LARGE {
-        on(fields::number_of(name), n, count, &times);
+        on(kinds::number_of(name), n, count, &times);
     }
     assert!(!met.contains(&0), "{met:?}");
 }
@@ -69,8 +69,8 @@ impl Run {
     ) -> Self {
         let numbers = count as usize * n.iter().product::<usize>();
         let (ext, lists) = (over(2, n), empty().and_flux(vec![], vec![BEFORE; numbers]));
-        let lent = lists.lend();
-        let good = lent.arguments(ext, 0, 0);
+        let padded = lists.padded();
+        let good = padded.arguments(ext, 0, 0);
         let flux = Flux {
             offsets: source.quarks(),
             length: source.length(),
@@ -82,10 +82,10 @@ impl Run {
         let a = Arguments {
             flux,
             count,
-            grid: &lent.grid[..numbers],
+            grid: &padded.grid[..numbers],
             ..good
         };
-        Ground::bare(ext, lists).check(tally, &NEW, &a, &lent);
+        Ground::bare(ext, lists).check(tally, &NEW, &a, &padded);
         let length = flux.length as usize;
         Self {
             number,
@@ -99,17 +99,17 @@ impl Run {
     /// Whether row 10 refused it.
     fn add(&mut self, tally: &mut Tally, source: &mut Source, seed: u64, nt: usize) -> bool {
         let ext = over(nt, self.n);
-        let links = fields::links(&KINDS[self.number], ext, seed);
+        let links = kinds::links(&KINDS[self.number], ext, seed);
         let count = self.flux.count as usize;
         let densities = source.densities(&flat::lattice(ext, &links), count);
         let lists = Lists::new(links, vec![]).and_flux(densities.concat(), self.grid.clone());
-        let lent = lists.lend();
+        let padded = lists.padded();
         let mut ground = Ground::new([self.number as u64, seed], ext, lists);
         let a = Arguments {
             flux: self.flux,
-            ..by_ref.adding(ext, count as u32)
+            ..padded.adding(ext, count as u32)
         };
-        ground.check(tally, &ADD, &a, &lent);
+        ground.check(tally, &ADD, &a, &padded);
         let Some(added) = Added::new(&a, &ground.lattice).accepted() else {
             return true;
         };
@@ -123,26 +123,26 @@ impl Run {
     fn means(&self, tally: &mut Tally) {
         let (ext, cells) = (over(2, self.n), self.flux.cells());
         let lists = empty().and_flux(vec![BEFORE; cells], self.grid.clone());
-        let lent = lists.lend();
+        let padded = lists.padded();
         let mut ground = Ground::bare(ext, lists);
         let a = Arguments {
             flux: self.flux,
-            grid: &lent.grid[..self.grid.len()],
-            second: &lent.second[..cells],
-            ..by_ref.arguments(ext, 0, 0)
+            grid: &padded.grid[..self.grid.len()],
+            second: &padded.second[..cells],
+            ..padded.arguments(ext, 0, 0)
         };
         let accepted = |call: &Call, a: &Arguments| rows::refusal(call.takes, a) == 0;
-        ground.check(tally, &MEAN_LOOP, &a, &lent);
+        ground.check(tally, &MEAN_LOOP, &a, &padded);
         if accepted(&MEAN_LOOP, &a) {
             let own = checked(&[self.own.mean_loop()]);
-            ground.hold(tally, &MEAN_LOOP, &a, &lent, own);
+            ground.hold(tally, &MEAN_LOOP, &a, &padded, own);
         }
         for number in 0..=self.flux.count as u32 {
             let a = Arguments { number, ..a };
-            ground.check(tally, &CORRELATION, &a, &lent);
+            ground.check(tally, &CORRELATION, &a, &padded);
             if accepted(&CORRELATION, &a) {
                 let own = self.own.correlation(number as usize);
-                ground.fill(tally, &CORRELATION, &a, &lent, &own);
+                ground.fill(tally, &CORRELATION, &a, &padded, &own);
             }
         }
     }
@@ -159,7 +159,7 @@ fn empty() -> Lists {
 impl Source {
     /// So many, most of them the field's own.
     fn densities(&mut self, lattice: &Su3Lattice, count: usize) -> Vec<Vec<f64>> {
-        let own = gluons::densities(&lattice.field_strength());
+        let own = fields::densities(&lattice.field_strength());
         let mut density = |own: &Vec<f64>| match self.below(16) {
             0 => self.many(own.len(), |s| s.sometimes_hard(40)),
             1 => self.many(own.len(), Source::unit),

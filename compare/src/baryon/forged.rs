@@ -2,9 +2,9 @@
 
 use crate::calls::{ADD, Added, CORRELATION, MEAN_LOOP};
 use crate::face::Four;
-use crate::fields::{self, KINDS};
-use crate::ground::{Ground, Lent, Lists};
+use crate::ground::{Ground, Lists, Padded};
 use crate::inputs::Source;
+use crate::kinds::{self, KINDS};
 use crate::rows::{self, Arguments, Flux};
 use crate::tally::{Tally, bits};
 use std::fmt;
@@ -91,9 +91,9 @@ impl fmt::Display for Own {
 pub fn compare(tally: &mut Tally, source: &mut Source) {
     let mut own = Own::default();
     for name in ON {
-        let number = fields::number_of(name);
+        let number = kinds::number_of(name);
         for ext in EXTENTS {
-            let links = fields::links(&KINDS[number], ext, 0);
+            let links = kinds::links(&KINDS[number], ext, 0);
             for _ in 0..ACCUMULATORS {
                 let label = [number as u64, 0];
                 accumulator(tally, source, &mut own, label, (ext, &links));
@@ -106,8 +106,8 @@ pub fn compare(tally: &mut Tally, source: &mut Source) {
 
 /// One number alone at the end of the range or past it, in each place of sums, grid and densities.
 fn alone(tally: &mut Tally, own: &mut Own) {
-    let (ext, group) = (EXTENTS[1], fields::number_of("group"));
-    let links = fields::links(&KINDS[group], ext, 0);
+    let (ext, group) = (EXTENTS[1], kinds::number_of("group"));
+    let links = kinds::links(&KINDS[group], ext, 0);
     let [sites, cells] = [32, 8];
     for end in ENDS {
         for place in 0..5 + 2 * (cells + sites) {
@@ -116,11 +116,17 @@ fn alone(tally: &mut Tally, own: &mut Own) {
             let mut all = sums.iter_mut().chain(&mut grid).chain(&mut densities);
             *all.nth(place).expect("a place") = end;
             let lists = Lists::new(links.clone(), vec![]).and_flux(densities, grid);
-            let lent = lists.lend();
-            let good = lent.adding(ext, 2);
+            let padded = lists.padded();
+            let good = padded.adding(ext, 2);
             let flux = Flux { sums, ..good.flux };
             let mut ground = Ground::new([group as u64, 0], ext, lists);
-            each_call(tally, own, &mut ground, &Arguments { flux, ..good }, &lent);
+            each_call(
+                tally,
+                own,
+                &mut ground,
+                &Arguments { flux, ..good },
+                &padded,
+            );
         }
     }
 }
@@ -143,8 +149,8 @@ fn accumulator(
     let [densities, grid] =
         [sites, sites / ext[0]].map(|each| source.many(count * each, |s| number(s, once_in)));
     let lists = Lists::new(links.to_vec(), vec![]).and_flux(densities, grid);
-    let lent = lists.lend();
-    let good = lent.adding(ext, count as u32);
+    let padded = lists.padded();
+    let good = padded.adding(ext, count as u32);
     let flux = Flux {
         offsets: source.quarks(),
         length: source.length(),
@@ -153,22 +159,34 @@ fn accumulator(
         ..good.flux
     };
     let mut ground = Ground::new(label, ext, lists);
-    each_call(tally, own, &mut ground, &Arguments { flux, ..good }, &lent);
+    each_call(
+        tally,
+        own,
+        &mut ground,
+        &Arguments { flux, ..good },
+        &padded,
+    );
 }
 
-fn each_call(tally: &mut Tally, own: &mut Own, ground: &mut Ground, a: &Arguments, lent: &Lent) {
-    ground.check(tally, &ADD, a, lent);
+fn each_call(
+    tally: &mut Tally,
+    own: &mut Own,
+    ground: &mut Ground,
+    a: &Arguments,
+    padded: &Padded,
+) {
+    ground.check(tally, &ADD, a, padded);
     if rows::refusal(ADD.takes, a) == 0 {
         own.hold(tally, ground, a);
     }
-    ground.check(tally, &MEAN_LOOP, a, lent);
+    ground.check(tally, &MEAN_LOOP, a, padded);
     for number in 0..=a.count {
         let a = Arguments {
             number,
-            second: &lent.second[..a.flux.cells()],
+            second: &padded.second[..a.flux.cells()],
             ..*a
         };
-        ground.check(tally, &CORRELATION, &a, lent);
+        ground.check(tally, &CORRELATION, &a, padded);
     }
 }
 

@@ -3,7 +3,7 @@
 
 use crate::calls::STAIRCASE;
 use crate::face::{self, Offset};
-use crate::ground::{Ground, Lent, Lists};
+use crate::ground::{Ground, Lists, Padded};
 use crate::rows::{Arguments, Flux};
 use crate::tally::{Tally, answer};
 use std::cell::Cell;
@@ -39,28 +39,28 @@ const KNOWN: [(Offset, &[u8]); 4] = [
 
 pub fn compare(tally: &mut Tally) {
     let lists = Lists::new(vec![], vec![]).and_steps(vec![MARK; MOST]);
-    let lent = lists.lend();
+    let padded = lists.padded();
     let mut ground = Ground::bare([2; 4], lists);
     for offset in cube(-32..=32) {
         let needed = offset.map(i32::abs).iter().sum::<i32>() as usize;
         for room in [needed, needed + 1 + needed % 31] {
-            let a = arguments(&lent, offset, room);
-            ground.check(tally, &STAIRCASE, &a, &lent);
+            let a = arguments(&padded, offset, room);
+            ground.check(tally, &STAIRCASE, &a, &padded);
         }
         if let Some(room) = needed.checked_sub(1) {
-            let a = arguments(&lent, offset, room);
-            ground.hold(tally, &STAIRCASE, &a, &lent, STAIRCASE.refused(12, &a));
+            let a = arguments(&padded, offset, room);
+            ground.hold(tally, &STAIRCASE, &a, &padded, STAIRCASE.refused(12, &a));
         }
     }
     for offset in cube(COMPONENTS) {
         for room in [0, 95, 96, MOST] {
-            let a = arguments(&lent, offset, room);
-            ground.check(tally, &STAIRCASE, &a, &lent);
+            let a = arguments(&padded, offset, room);
+            ground.check(tally, &STAIRCASE, &a, &padded);
         }
     }
     for (offset, steps) in KNOWN {
-        known(tally, &lent, offset, steps);
-        ground.restore(&lent);
+        known(tally, &padded, offset, steps);
+        ground.restore(&padded);
     }
 }
 
@@ -73,10 +73,10 @@ fn cube(components: impl IntoIterator<Item = i32> + Clone) -> impl Iterator<Item
     planes.flat_map(move |[x, y]| of().map(move |z| [x, y, z]))
 }
 
-fn arguments(lent: &Lent, [x, y, z]: Offset, room: usize) -> Arguments<'_> {
-    let a = lent.arguments([2; 4], 0, 0);
+fn arguments(padded: &Padded, [x, y, z]: Offset, room: usize) -> Arguments<'_> {
+    let a = padded.arguments([2; 4], 0, 0);
     Arguments {
-        steps: &lent.steps[..room],
+        steps: &padded.steps[..room],
         flux: Flux {
             offsets: [x, y, z, 0, 0, 0, 0, 0, 0],
             ..a.flux
@@ -85,9 +85,9 @@ fn arguments(lent: &Lent, [x, y, z]: Offset, room: usize) -> Arguments<'_> {
     }
 }
 
-fn known(tally: &mut Tally, lent: &Lent, offset: Offset, steps: &[u8]) {
-    let (refusal, [count]) = face::staircase(&offset, &lent.steps);
-    let front = lent.steps.iter().take(steps.len()).map(Cell::get);
+fn known(tally: &mut Tally, padded: &Padded, offset: Offset, steps: &[u8]) {
+    let (refusal, [count]) = face::staircase(&offset, &padded.steps);
+    let front = padded.steps.iter().take(steps.len()).map(Cell::get);
     let rattle = answer(
         refusal,
         [count.into()].into_iter().chain(front.map(u64::from)),

@@ -3,9 +3,9 @@
 use super::{LENGTHS, QUARKS};
 use crate::calls::{BARYON_LOOP, PATH, TIME_LINE};
 use crate::face::Four;
-use crate::fields::{self, KINDS, Kind};
-use crate::ground::{Ground, Lent, Lists};
+use crate::ground::{Ground, Lists, Padded};
 use crate::inputs::Source;
+use crate::kinds::{self, KINDS, Kind};
 use crate::lattice::SMALL;
 use crate::rows::{Arguments, Flux};
 use crate::tally::Tally;
@@ -37,23 +37,29 @@ pub fn compare(tally: &mut Tally, source: &mut Source) {
         }
         MIDDLE.into_iter().for_each(|ext| on(ext, SEEDS));
     }
-    let group = fields::number_of("group");
+    let group = kinds::number_of("group");
     field(tally, source, &KINDS[group], [group as u64, 0], LARGEST);
 }
 
 fn field(tally: &mut Tally, source: &mut Source, kind: &Kind, label: [u64; 2], ext: Four) {
-    let links = fields::links(kind, ext, label[1]);
+    let links = kinds::links(kind, ext, label[1]);
     let lists = Lists::new(links.clone(), vec![]).and_steps(source.steps());
-    let lent = lists.lend();
-    let good = lent.arguments(ext, links.len(), 0);
+    let padded = lists.padded();
+    let good = padded.arguments(ext, links.len(), 0);
     let mut ground = Ground::new(label, ext, lists);
-    paths(tally, source, &mut ground, &good, &lent);
-    lines(tally, source, &mut ground, &good, &lent);
-    loops(tally, source, &mut ground, &good, &lent);
+    paths(tally, source, &mut ground, &good, &padded);
+    lines(tally, source, &mut ground, &good, &padded);
+    loops(tally, source, &mut ground, &good, &padded);
 }
 
 /// Each is a piece of the one list of steps; a few are one step too long.
-fn paths(tally: &mut Tally, source: &mut Source, ground: &mut Ground, a: &Arguments, lent: &Lent) {
+fn paths(
+    tally: &mut Tally,
+    source: &mut Source,
+    ground: &mut Ground,
+    a: &Arguments,
+    padded: &Padded,
+) {
     let starts = 8 * STRAIGHT + ANY + MIXED - STRAIGHT;
     for number in 0..PATHS {
         let length = match number {
@@ -68,27 +74,39 @@ fn paths(tally: &mut Tally, source: &mut Source, ground: &mut Ground, a: &Argume
         let start = source.below(starts as u64) as usize;
         let a = Arguments {
             site: source.below(a.sites() as u64) as usize,
-            steps: &lent.steps[start..start + length],
+            steps: &padded.steps[start..start + length],
             ..*a
         };
-        ground.check(tally, &PATH, &a, lent);
+        ground.check(tally, &PATH, &a, padded);
     }
 }
 
 /// Of every length from one site, and of any from others.
-fn lines(tally: &mut Tally, source: &mut Source, ground: &mut Ground, a: &Arguments, lent: &Lent) {
+fn lines(
+    tally: &mut Tally,
+    source: &mut Source,
+    ground: &mut Ground,
+    a: &Arguments,
+    padded: &Padded,
+) {
     let sites = a.sites() as u64;
     let one = source.below(sites);
     let each = (0..=65).map(|length| (one, length));
     let any = (0..24).map(|_| (source.below(sites), source.length()));
     for (site, length) in each.chain(any) {
         let a = walk(a, site, a.flux.offsets, length);
-        ground.check(tally, &TIME_LINE, &a, lent);
+        ground.check(tally, &TIME_LINE, &a, padded);
     }
 }
 
 /// The listed quarks with lengths that come round, at any site each, then any quarks.
-fn loops(tally: &mut Tally, source: &mut Source, ground: &mut Ground, a: &Arguments, lent: &Lent) {
+fn loops(
+    tally: &mut Tally,
+    source: &mut Source,
+    ground: &mut Ground,
+    a: &Arguments,
+    padded: &Padded,
+) {
     let sites = a.sites() as u64;
     for number in 0..LOOPS {
         let offsets = match QUARKS.get(number) {
@@ -97,7 +115,7 @@ fn loops(tally: &mut Tally, source: &mut Source, ground: &mut Ground, a: &Argume
         };
         for length in [LENGTHS[number % 5], source.length()] {
             let a = walk(a, source.below(sites), offsets, length);
-            ground.check(tally, &BARYON_LOOP, &a, lent);
+            ground.check(tally, &BARYON_LOOP, &a, padded);
         }
     }
 }

@@ -16,7 +16,10 @@ pub const OVERRELAX_LINK: Call = Call {
     width: 18,
     rattle: |a| {
         numbers(face::overrelax_link(
-            &a.ext, a.coupling, a.site, a.mu, a.links,
+            &a.ext,
+            a.coupling,
+            [a.site, a.mu],
+            a.links,
         ))
     },
     rust: |a, lattice| update::answered(update::at(lattice, a.mu, a.site)),

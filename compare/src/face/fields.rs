@@ -1,5 +1,6 @@
 //! Smearing, the field strength and the densities. Lists are cells, as the lattice's are.
 
+use super::lattice::{List, of_plane};
 use super::{Four, Mat, with_room};
 use std::cell::Cell;
 
@@ -81,12 +82,10 @@ pub fn stout_step(ext: &Four, rho: f64, links: &[Cell<f64>], smeared: &[Cell<f64
 pub fn clover_leaves(
     ext: &Four,
     site: usize,
-    [mu, nu]: [usize; 2],
+    plane: [usize; 2],
     links: &[Cell<f64>],
 ) -> (u32, Mat) {
-    let (links, n) = (links.as_ptr(), links.len());
-    // SAFETY: pointer and length are a slice's of cells.
-    with_room(|out| unsafe { jj_clover_leaves(ext, site, mu, nu, links, n, out) })
+    of_plane(jj_clover_leaves, ext, site, plane, links)
 }
 
 pub fn field_strength_at(ext: &Four, site: usize, links: &[Cell<f64>]) -> (u32, Planes) {
@@ -94,16 +93,21 @@ pub fn field_strength_at(ext: &Four, site: usize, links: &[Cell<f64>]) -> (u32, 
     with_room(|out| unsafe { jj_field_strength_at(ext, site, links.as_ptr(), links.len(), out) })
 }
 
-pub fn action_density(ext: &Four, links: &[Cell<f64>], density: &[Cell<f64>]) -> u32 {
+/// A call that fills a density and takes nothing else.
+type Density = unsafe extern "C" fn(&Four, List, usize, List, usize) -> u32;
+
+fn fill(call: Density, ext: &Four, links: &[Cell<f64>], density: &[Cell<f64>]) -> u32 {
     let (links, n, density, m) = (links.as_ptr(), links.len(), density.as_ptr(), density.len());
     // SAFETY: pointers and lengths are two slices' of cells.
-    unsafe { jj_action_density(ext, links, n, density, m) }
+    unsafe { call(ext, links, n, density, m) }
+}
+
+pub fn action_density(ext: &Four, links: &[Cell<f64>], density: &[Cell<f64>]) -> u32 {
+    fill(jj_action_density, ext, links, density)
 }
 
 pub fn topological_charge_density(ext: &Four, links: &[Cell<f64>], density: &[Cell<f64>]) -> u32 {
-    let (links, n, density, m) = (links.as_ptr(), links.len(), density.as_ptr(), density.len());
-    // SAFETY: pointers and lengths are two slices' of cells.
-    unsafe { jj_topological_charge_density(ext, links, n, density, m) }
+    fill(jj_topological_charge_density, ext, links, density)
 }
 
 pub fn electric_sq(ext: &Four, axis: usize, links: &[Cell<f64>], density: &[Cell<f64>]) -> u32 {

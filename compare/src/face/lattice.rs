@@ -9,6 +9,8 @@ use std::cell::Cell;
 
 /// t, x, y, z: extents or coordinates.
 pub type Four = [usize; 4];
+/// Where a list of numbers begins.
+pub(super) type List = *const Cell<f64>;
 
 // SAFETY: names and types are the header's, and no call keeps a pointer. Those that take a list
 // are safe where pointer and length are a slice's of cells.
@@ -91,20 +93,40 @@ pub fn cold(ext: &Four, coupling: f64, seed: u64, links: &[Cell<f64>]) -> u32 {
     unsafe { jj_cold(ext, coupling, seed, links.as_ptr(), links.len()) }
 }
 
-pub fn plaquette(ext: &Four, site: usize, [mu, nu]: [usize; 2], links: &[Cell<f64>]) -> (u32, Mat) {
-    // SAFETY: pointer and length are a slice's of cells.
-    with_room(|out| unsafe { jj_plaquette(ext, site, mu, nu, links.as_ptr(), links.len(), out) })
-}
+/// A call on a site and a plane.
+type OfPlane = unsafe extern "C" fn(&Four, usize, usize, usize, List, usize, &mut Mat) -> u32;
 
-pub fn staple(
+pub(super) fn of_plane(
+    call: OfPlane,
     ext: &Four,
-    coupling: f64,
     site: usize,
-    mu: usize,
+    [mu, nu]: [usize; 2],
     links: &[Cell<f64>],
 ) -> (u32, Mat) {
     // SAFETY: pointer and length are a slice's of cells.
-    with_room(|out| unsafe { jj_staple(ext, coupling, site, mu, links.as_ptr(), links.len(), out) })
+    with_room(|out| unsafe { call(ext, site, mu, nu, links.as_ptr(), links.len(), out) })
+}
+
+/// A call on a link, with the plan's coupling.
+type OfLink = unsafe extern "C" fn(&Four, f64, usize, usize, List, usize, &mut Mat) -> u32;
+
+pub(super) fn of_link(
+    call: OfLink,
+    ext: &Four,
+    coupling: f64,
+    [site, mu]: [usize; 2],
+    links: &[Cell<f64>],
+) -> (u32, Mat) {
+    // SAFETY: pointer and length are a slice's of cells.
+    with_room(|out| unsafe { call(ext, coupling, site, mu, links.as_ptr(), links.len(), out) })
+}
+
+pub fn plaquette(ext: &Four, site: usize, plane: [usize; 2], links: &[Cell<f64>]) -> (u32, Mat) {
+    of_plane(jj_plaquette, ext, site, plane, links)
+}
+
+pub fn staple(ext: &Four, coupling: f64, link: [usize; 2], links: &[Cell<f64>]) -> (u32, Mat) {
+    of_link(jj_staple, ext, coupling, link, links)
 }
 
 pub fn average_plaquette(ext: &Four, links: &[Cell<f64>]) -> (u32, [f64; 1]) {

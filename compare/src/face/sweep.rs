@@ -1,5 +1,6 @@
 //! The overrelaxation: one link, and half-sweeps in frames. Lists are cells, as the lattice's are.
 
+use super::lattice::of_link;
 use super::{Four, Mat, with_room};
 use std::cell::Cell;
 
@@ -39,13 +40,10 @@ pub fn update_link(u: &Mat, staple: &Mat) -> (u32, Mat) {
 pub fn overrelax_link(
     ext: &Four,
     coupling: f64,
-    site: usize,
-    mu: usize,
+    link: [usize; 2],
     links: &[Cell<f64>],
 ) -> (u32, Mat) {
-    let (links, n) = (links.as_ptr(), links.len());
-    // SAFETY: pointer and length are a slice's of cells.
-    with_room(|out| unsafe { jj_overrelax_link(ext, coupling, site, mu, links, n, out) })
+    of_link(jj_overrelax_link, ext, coupling, link, links)
 }
 
 /// `jj_open_overrelax` with seed and pass of the plan: the job and the pass after it.

@@ -25,8 +25,9 @@ pub struct Lists {
     pub scratch: Vec<f64>,
 }
 
-/// The lists as the library has them. A call is lent the front of each.
-pub struct Lent {
+/// The lists as the library has them, places beyond their ends included. A call is lent the front of
+/// each.
+pub struct Padded {
     pub links: Vec<Cell<f64>>,
     pub found: Vec<Cell<u32>>,
     pub second: Vec<Cell<f64>>,
@@ -79,8 +80,8 @@ impl Lists {
         self.second[..numbers.len()].copy_from_slice(numbers);
     }
 
-    pub fn lend(&self) -> Lent {
-        Lent {
+    pub fn padded(&self) -> Padded {
+        Padded {
             links: cells(&self.links),
             found: cells(&self.found),
             second: cells(&self.second),
@@ -95,7 +96,7 @@ fn cells<T: Copy>(list: &[T]) -> Vec<Cell<T>> {
     list.iter().copied().map(Cell::new).collect()
 }
 
-impl Lent {
+impl Padded {
     /// Arguments that are good, with this much of the first two lists and nothing of the others.
     pub fn arguments(&self, ext: Four, links: usize, room: usize) -> Arguments<'_> {
         Arguments {
@@ -160,31 +161,31 @@ impl Lent {
     }
 }
 
-fn put<T: Copy>(lent: &[Cell<T>], list: &[T]) {
-    for (place, &x) in lent.iter().zip(list) {
+fn put<T: Copy>(padded: &[Cell<T>], list: &[T]) {
+    for (place, &x) in padded.iter().zip(list) {
         place.set(x);
     }
 }
 
 /// How many places of each list are not as expected, NaNs told apart too.
-pub fn changed(lent: &Lent, expected: &Lists) -> [u64; 6] {
+pub fn changed(padded: &Padded, expected: &Lists) -> [u64; 6] {
     [
-        changed_numbers(&lent.links, &expected.links),
-        changed_places(&lent.found, &expected.found),
-        changed_numbers(&lent.second, &expected.second),
-        changed_places(&lent.steps, &expected.steps),
-        changed_numbers(&lent.grid, &expected.grid),
-        changed_numbers(&lent.scratch, &expected.scratch),
+        changed_numbers(&padded.links, &expected.links),
+        changed_places(&padded.found, &expected.found),
+        changed_numbers(&padded.second, &expected.second),
+        changed_places(&padded.steps, &expected.steps),
+        changed_numbers(&padded.grid, &expected.grid),
+        changed_numbers(&padded.scratch, &expected.scratch),
     ]
 }
 
-fn changed_places<T: Copy + PartialEq>(lent: &[Cell<T>], expected: &[T]) -> u64 {
-    let pairs = lent.iter().zip(expected);
+fn changed_places<T: Copy + PartialEq>(padded: &[Cell<T>], expected: &[T]) -> u64 {
+    let pairs = padded.iter().zip(expected);
     pairs.map(|(a, &b)| u64::from(a.get() != b)).sum()
 }
 
-fn changed_numbers(lent: &[Cell<f64>], expected: &[f64]) -> u64 {
-    let pairs = lent.iter().zip(expected);
+fn changed_numbers(padded: &[Cell<f64>], expected: &[f64]) -> u64 {
+    let pairs = padded.iter().zip(expected);
     let differ = |(a, b): (&Cell<f64>, &f64)| u64::from(a.get().to_bits() != b.to_bits());
     pairs.map(differ).sum()
 }

@@ -3,7 +3,7 @@
 use super::{of, spoilt};
 use crate::calls::Call;
 use crate::face::{Offset, Offsets, Sums};
-use crate::ground::Lent;
+use crate::ground::Padded;
 use crate::rows::{Arguments, Flux, Part};
 use std::cell::Cell;
 use std::ops::Range;
@@ -116,7 +116,7 @@ pub fn two_densities(a: Arguments) -> Arguments {
 }
 
 /// With lists as long as the numbers ask for, as far as there are so many.
-pub fn fitted<'a>(a: Arguments<'a>, call: &Call, lent: &'a Lent) -> Arguments<'a> {
+pub fn fitted<'a>(a: Arguments<'a>, call: &Call, padded: &'a Padded) -> Arguments<'a> {
     let takes = |part| call.takes.contains(&part);
     let count = if takes(Part::Count) {
         a.count as usize
@@ -138,11 +138,11 @@ pub fn fitted<'a>(a: Arguments<'a>, call: &Call, lent: &'a Lent) -> Arguments<'a
         6
     };
     Arguments {
-        links: front(&lent.links, 72 * sites),
-        second: front(&lent.second, second.sum()),
-        steps: front(&lent.steps, steps),
-        grid: front(&lent.grid, grid),
-        scratch: front(&lent.scratch, grid.saturating_mul(2)),
+        links: front(&padded.links, 72 * sites),
+        second: front(&padded.second, second.sum()),
+        steps: front(&padded.steps, steps),
+        grid: front(&padded.grid, grid),
+        scratch: front(&padded.scratch, grid.saturating_mul(2)),
         ..a
     }
 }
@@ -153,14 +153,14 @@ pub fn front<T>(list: &[Cell<T>], length: usize) -> &[Cell<T>] {
 }
 
 /// The arguments with each choice for one part.
-pub fn variants<'a>(part: Part, a: &Arguments<'a>, lent: &'a Lent) -> Vec<Arguments<'a>> {
+pub fn variants<'a>(part: Part, a: &Arguments<'a>, padded: &'a Padded) -> Vec<Arguments<'a>> {
     let with = |flux: Flux| Arguments { flux, ..*a };
     let second = |n: usize| Arguments {
-        second: &lent.second[..n],
+        second: &padded.second[..n],
         ..*a
     };
     let steps = |range: Range<usize>| Arguments {
-        steps: &lent.steps[range],
+        steps: &padded.steps[range],
         ..*a
     };
     let samples = |samples| with(Flux { samples, ..a.flux });
@@ -179,11 +179,11 @@ pub fn variants<'a>(part: Part, a: &Arguments<'a>, lent: &'a Lent) -> Vec<Argume
         Part::Densities => of(DENSITIES, second),
         Part::Correlation => of(CORRELATIONS, second),
         Part::Grid => of(CELLS, |n| Arguments {
-            grid: &lent.grid[..n],
+            grid: &padded.grid[..n],
             ..*a
         }),
         Part::Scratch => of(SCRATCHES, |n| Arguments {
-            scratch: &lent.scratch[..n],
+            scratch: &padded.scratch[..n],
             ..*a
         }),
         Part::Samples | Part::Asked => of(SAMPLES, samples),

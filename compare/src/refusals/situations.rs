@@ -3,7 +3,7 @@
 
 use super::{baryon, good};
 use crate::calls::Call;
-use crate::ground::{Ground, Lent};
+use crate::ground::{Ground, Padded};
 use crate::rows::{Arguments, Part};
 use crate::tally::Tally;
 use std::cell::Cell;
@@ -16,7 +16,7 @@ type Situation = (u32, &'static [Part], Spoil);
 #[derive(Clone, Copy)]
 enum Spoil {
     Numbers(fn(&mut Arguments)),
-    List(for<'a> fn(&mut Arguments<'a>, &'a Lent)),
+    List(for<'a> fn(&mut Arguments<'a>, &'a Padded)),
 }
 
 use Spoil::{List, Numbers};
@@ -29,27 +29,27 @@ const SITUATIONS: [Situation; 38] = [
     (
         3,
         &[Part::Links],
-        List(|a, lent| a.links = longer(a.links, &lent.links)),
+        List(|a, padded| a.links = longer(a.links, &padded.links)),
     ),
     (
         3,
         &[Part::Densities],
-        List(|a, lent| a.second = longer(a.second, &lent.second)),
+        List(|a, padded| a.second = longer(a.second, &padded.second)),
     ),
     (
         3,
         &[Part::Grid],
-        List(|a, lent| a.grid = longer(a.grid, &lent.grid)),
+        List(|a, padded| a.grid = longer(a.grid, &padded.grid)),
     ),
     (
         3,
         &[Part::Scratch],
-        List(|a, lent| a.scratch = longer(a.scratch, &lent.scratch)),
+        List(|a, padded| a.scratch = longer(a.scratch, &padded.scratch)),
     ),
     (
         3,
         &[Part::Correlation],
-        List(|a, lent| a.second = longer(a.second, &lent.second)),
+        List(|a, padded| a.second = longer(a.second, &padded.second)),
     ),
     (3, &[Part::Count], Numbers(|a| a.count = u32::MAX)),
     (
@@ -66,12 +66,12 @@ const SITUATIONS: [Situation; 38] = [
     (
         11,
         &[Part::Steps],
-        List(|a, lent| a.steps = &lent.steps[..97]),
+        List(|a, padded| a.steps = &padded.steps[..97]),
     ),
     (
         11,
         &[Part::Steps],
-        List(|a, lent| a.steps = &lent.steps[97..98]),
+        List(|a, padded| a.steps = &padded.steps[97..98]),
     ),
     (11, &[Part::Offset], Numbers(|a| a.flux.offsets[0] = 33)),
     (11, &[Part::Offset], Numbers(|a| a.flux.offsets[2] = -33)),
@@ -130,33 +130,33 @@ const SITUATIONS: [Situation; 38] = [
     ),
 ];
 
-pub fn compare(tally: &mut Tally, ground: &Ground, call: &Call, lent: &Lent) {
+pub fn compare(tally: &mut Tally, ground: &Ground, call: &Call, padded: &Padded) {
     let all: Vec<&Situation> = SITUATIONS
         .iter()
         .filter(|(_, parts, _)| parts.iter().all(|part| call.takes.contains(part)))
         .collect();
     for (number, one) in all.iter().enumerate() {
-        hold(tally, ground, call, lent, &[one]);
+        hold(tally, ground, call, padded, &[one]);
         for other in &all[..number] {
             // Two that spoil the same are no pair.
             if other.1[0] != one.1[0] {
-                hold(tally, ground, call, lent, &[other, one]);
+                hold(tally, ground, call, padded, &[other, one]);
             }
         }
     }
 }
 
-fn hold(tally: &mut Tally, ground: &Ground, call: &Call, lent: &Lent, met: &[&Situation]) {
-    let mut a = good(call, lent);
+fn hold(tally: &mut Tally, ground: &Ground, call: &Call, padded: &Padded, met: &[&Situation]) {
+    let mut a = good(call, padded);
     for (_, _, spoil) in met {
         if let Numbers(spoil) = spoil {
             spoil(&mut a);
         }
     }
-    a = baryon::fitted(a, call, lent);
+    a = baryon::fitted(a, call, padded);
     for (_, _, spoil) in met {
         if let List(spoil) = spoil {
-            spoil(&mut a, lent);
+            spoil(&mut a, padded);
         }
     }
     // Row 10 comes last.
@@ -164,10 +164,10 @@ fn hold(tally: &mut Tally, ground: &Ground, call: &Call, lent: &Lent, met: &[&Si
     let first = rows
         .min_by_key(|&row| (row == 10, row))
         .expect("one at least");
-    ground.hold(tally, call, &a, lent, call.refused(first, &a));
+    ground.hold(tally, call, &a, padded, call.refused(first, &a));
 }
 
 /// By a number where there is one: an empty list cannot be shorter.
-fn longer<'a, T>(list: &[Cell<T>], lent: &'a [Cell<T>]) -> &'a [Cell<T>] {
-    baryon::front(lent, list.len() + 1)
+fn longer<'a, T>(list: &[Cell<T>], padded: &'a [Cell<T>]) -> &'a [Cell<T>] {
+    baryon::front(padded, list.len() + 1)
 }

@@ -42,9 +42,9 @@ use crate::calls::{
     self, Added, BARYON_LOOP, CORRELATION, MEAN_LOOP, PATH, TIME_LINE, bytes, correlation,
 };
 use crate::face::{Four, Offset, Offsets};
-use crate::fields::{self, Kind};
 use crate::flat;
 use crate::ground::Lists;
+use crate::kinds::{self, Kind};
 use crate::reference::su3::lattice::Su3Lattice;
 use crate::reference::su3::rng::Rng;
 use crate::rows::{self, Arguments, Flux};
@@ -85,7 +85,7 @@ pub fn lines(to: &mut String) -> Result {
         steps.iter().try_for_each(|step| write!(to, " {step}"))?;
         writeln!(to)?;
     }
-    for kind in fields::sampled() {
+    for kind in kinds::sampled() {
         walks(to, kind)?;
         flux(to, kind)?;
     }
@@ -93,14 +93,14 @@ pub fn lines(to: &mut String) -> Result {
 }
 
 fn walks(to: &mut String, kind: &Kind) -> Result {
-    let links = fields::links(kind, EXTENTS, SEED);
+    let links = kinds::links(kind, EXTENTS, SEED);
     let lattice = &mut flat::lattice(EXTENTS, &links);
     let steps = (0..lattice.n_sites()).flat_map(steps_from).collect();
-    let lent = Lists::new(links.clone(), vec![]).and_steps(steps).lend();
-    let a = lent.arguments(EXTENTS, links.len(), 0);
+    let padded = Lists::new(links.clone(), vec![]).and_steps(steps).padded();
+    let a = padded.arguments(EXTENTS, links.len(), 0);
     let sites = || (0..a.sites()).map(|site| Arguments { site, ..a });
     let paths = sites().map(|a| Arguments {
-        steps: &lent.steps[a.site * a.site.saturating_sub(1) / 2..][..a.site],
+        steps: &padded.steps[a.site * a.site.saturating_sub(1) / 2..][..a.site],
         ..a
     });
     let lines = sites().flat_map(|a| LENGTHS.map(|length| walk(&a, (a.flux.offsets, length))));
@@ -139,11 +139,11 @@ fn flux(to: &mut String, kind: &Kind) -> Result {
     };
     let mut grid = vec![0.0; 2 * CELLS];
     for ext in ADDED {
-        let links = fields::links(kind, ext, SEED);
+        let links = kinds::links(kind, ext, SEED);
         let lattice = &flat::lattice(ext, &links);
         let lists = Lists::new(links, vec![]).and_flux(densities(lattice), grid.clone());
-        let lent = lists.lend();
-        let good = lent.adding(ext, 2);
+        let padded = lists.padded();
+        let good = padded.adding(ext, 2);
         let added = Added::new(&Arguments { flux, ..good }, lattice).accepted();
         let row = if added.is_some() { 0 } else { 10 };
         if let Some(added) = added {
@@ -181,12 +181,12 @@ fn after(flux: &Flux, grid: &[f64]) -> String {
 
 fn means(to: &mut String, flux: Flux, grid: Vec<f64>) -> Result {
     let lists = Lists::new(vec![], vec![]).and_flux(vec![7.0; CELLS], grid);
-    let lent = lists.lend();
+    let padded = lists.padded();
     let a = Arguments {
         flux,
-        grid: &lent.grid[..2 * CELLS],
-        second: &lent.second[..CELLS],
-        ..by_ref.arguments(ADDED[0], 0, 0)
+        grid: &padded.grid[..2 * CELLS],
+        second: &padded.second[..CELLS],
+        ..padded.arguments(ADDED[0], 0, 0)
     };
     let lattice = &mut Su3Lattice::cold(ADDED[0], 0.0, 0);
     writeln!(to, "mean_loop{}", answer(&MEAN_LOOP, &a, lattice))?;

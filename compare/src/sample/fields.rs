@@ -21,9 +21,10 @@
 use super::{SEED, hash::Hash, over};
 use crate::calls::{self, CLOVER_LEAVES, FIELD_STRENGTH_AT, STOUT_LINK};
 use crate::face::Four;
-use crate::fields::{self, Kind};
 use crate::flat;
 use crate::ground::Lists;
+use crate::kinds::{self, Kind};
+use crate::reference::su3::lattice::Su3Lattice;
 use crate::rows::{self, Arguments};
 use std::fmt::{Result, Write};
 
@@ -44,45 +45,20 @@ const MORE: (&str, [f64; 8]) = (
 );
 
 pub fn lines(to: &mut String) -> Result {
-    fields::sampled()
-        .iter()
-        .try_for_each(|kind| field(to, kind))
+    kinds::sampled().iter().try_for_each(|kind| field(to, kind))
 }
 
 fn field(to: &mut String, kind: &Kind) -> Result {
-    let links = fields::links(kind, EXTENTS, SEED);
+    let links = kinds::links(kind, EXTENTS, SEED);
     let lattice = &mut flat::lattice(EXTENTS, &links);
-    let lent = Lists::new(links.clone(), vec![]).lend();
+    let padded = Lists::new(links.clone(), vec![]).padded();
     let a = Arguments {
         rho: RHO,
-        ..by_ref.arguments(EXTENTS, links.len(), 0)
+        ..padded.arguments(EXTENTS, links.len(), 0)
     };
-    let sites = || (0..a.sites()).map(|site| Arguments { site, ..a });
-    let directions = || sites().flat_map(|a| (0..4).map(move |mu| Arguments { mu, ..a }));
-    let planes = directions().flat_map(|a| (0..4).map(move |nu| Arguments { nu, ..a }));
     writeln!(to, "fields {}", kind.name)?;
-    writeln!(
-        to,
-        "clover_leaves {}",
-        over(&[CLOVER_LEAVES], planes, lattice)
-    )?;
-    writeln!(
-        to,
-        "field_strengths {}",
-        over(&[FIELD_STRENGTH_AT], sites(), lattice)
-    )?;
-    writeln!(
-        to,
-        "stout_links {}",
-        over(&[STOUT_LINK], directions(), lattice)
-    )?;
-    let strength = lattice.field_strength();
-    let action = list(calls::action_density(&strength));
-    let charge = list(strength.topological_charge_density());
-    let [x, y, z] = strength.electric_sq().map(list);
-    writeln!(to, "action_density {action}")?;
-    writeln!(to, "topological_charge_density {charge}")?;
-    writeln!(to, "electric_sq {x} {y} {z}")?;
+    single(to, a, lattice)?;
+    densities(to, lattice)?;
     let (name, more) = MORE;
     let more = more.into_iter().filter(|_| kind.name == name);
     for rho in [RHO].into_iter().chain(more) {
@@ -90,6 +66,29 @@ fn field(to: &mut String, kind: &Kind) -> Result {
         writeln!(to, "stout_step {:016x} {step}", rho.to_bits())?;
     }
     Ok(())
+}
+
+/// The calls that answer matrices.
+fn single(to: &mut String, a: Arguments, lattice: &mut Su3Lattice) -> Result {
+    let sites = || (0..a.sites()).map(|site| Arguments { site, ..a });
+    let directions = || sites().flat_map(|a| (0..4).map(move |mu| Arguments { mu, ..a }));
+    let planes = directions().flat_map(|a| (0..4).map(move |nu| Arguments { nu, ..a }));
+    let leaves = over(&[CLOVER_LEAVES], planes, lattice);
+    let strengths = over(&[FIELD_STRENGTH_AT], sites(), lattice);
+    let links = over(&[STOUT_LINK], directions(), lattice);
+    writeln!(to, "clover_leaves {leaves}")?;
+    writeln!(to, "field_strengths {strengths}")?;
+    writeln!(to, "stout_links {links}")
+}
+
+fn densities(to: &mut String, lattice: &Su3Lattice) -> Result {
+    let strength = lattice.field_strength();
+    let action = list(calls::action_density(&strength));
+    let charge = list(strength.topological_charge_density());
+    let [x, y, z] = strength.electric_sq().map(list);
+    writeln!(to, "action_density {action}")?;
+    writeln!(to, "topological_charge_density {charge}")?;
+    writeln!(to, "electric_sq {x} {y} {z}")
 }
 
 /// Of a call that fills a list with these numbers.

@@ -24,8 +24,8 @@
 
 use super::{PAIRS, SEED, SETS, hash::Hash};
 use crate::face::Four;
-use crate::fields::{self, KINDS, Kind};
 use crate::flat;
+use crate::kinds::{self, KINDS, Kind};
 use crate::reference::su3::mat::Su3;
 use crate::reference::su3::rng::Rng;
 use crate::tally::Words;
@@ -51,7 +51,7 @@ pub fn lines(to: &mut String) -> Result {
         writeln!(to, "bound {:016x} {} {numbers}", bound.to_bits(), words[0])?;
     }
     for name in SWEPT {
-        sweep(to, &KINDS[fields::number_of(name)])?;
+        sweep(to, &KINDS[kinds::number_of(name)])?;
     }
     Ok(())
 }
@@ -61,7 +61,7 @@ fn answer(u: &Su3, staple: &Su3) -> Words {
 }
 
 fn sweep(to: &mut String, kind: &Kind) -> Result {
-    let mut links = fields::links(kind, EXTENTS, SEED);
+    let mut links = kinds::links(kind, EXTENTS, SEED);
     let mut whole = flat::lattice(EXTENTS, &links);
     whole.overrelax_sweep();
     writeln!(to, "sweep {} {}", kind.name, Hash::of_numbers(&links))?;

@@ -4,9 +4,9 @@
 //! has a part in what is expected.
 
 use crate::face::{self, Four};
-use crate::fields::{self, Kind};
 use crate::flat;
-use crate::ground::{Lent, Lists, UNCHANGED, changed};
+use crate::ground::{Lists, Padded, UNCHANGED, changed};
+use crate::kinds::{self, Kind};
 use crate::reference::su3::lattice::Su3Lattice;
 use crate::rows::Job;
 use crate::tally::{Tally, Words, answer};
@@ -20,10 +20,10 @@ pub struct Field {
     coupling: f64,
     /// Of the plan.
     pub pass: u64,
-    lent: Lent,
+    padded: Padded,
     now: Lists,
     /// Another field, whose list is lent to frames that are to be refused.
-    pub other: Lent,
+    pub other: Padded,
     other_now: Lists,
 }
 
@@ -46,16 +46,16 @@ pub struct Run {
 impl Field {
     pub fn new(kind: &Kind, label: [u64; 2], ext: Four) -> Self {
         let seed = label[1];
-        let lists = |ext, seed| Lists::new(fields::links(kind, ext, seed), vec![]);
+        let lists = |ext, seed| Lists::new(kinds::links(kind, ext, seed), vec![]);
         let (now, other_now) = (lists(ext, seed), lists([2, 2, 4, 2], seed + 100));
         Self {
             label,
             ext,
             coupling: [6.0, 0.0, -0.0, 100.0, 5.75][seed as usize % 5],
             pass: 0,
-            lent: now.lend(),
+            padded: now.padded(),
             now,
-            other: other_now.lend(),
+            other: other_now.padded(),
             other_now,
         }
     }
@@ -101,7 +101,7 @@ impl Field {
     /// A frame, accepted where its list is the field's own and whole.
     pub fn frame(&mut self, tally: &mut Tally, run: &mut Run, list: List, size: usize) {
         let (links, refused) = match list {
-            List::Own(n) => (&self.by_ref.links[..n], n != self.numbers()),
+            List::Own(n) => (&self.padded.links[..n], n != self.numbers()),
             List::Other(n) => (&self.other.links[..n], true),
         };
         let (refusal, job) = face::frame_overrelax(run.job, size, links);
@@ -118,7 +118,7 @@ impl Field {
         update::write(&mut self.now.links, visited);
         let due = update::after(run.opened, visited);
         let kept = [
-            changed(&self.lent, &self.now),
+            changed(&self.padded, &self.now),
             changed(&self.other, &self.other_now),
         ];
         let rattle = answer(refusal, job.into_iter().chain(kept.concat()));
@@ -154,7 +154,7 @@ impl Field {
 
     /// How many of the library's numbers are not the lattice's.
     pub fn differing(&self, lattice: &Su3Lattice) -> u64 {
-        let pairs = self.by_ref.links.iter().zip(flat::links(lattice));
+        let pairs = self.padded.links.iter().zip(flat::links(lattice));
         let differ = |(a, b): (&Cell<f64>, f64)| u64::from(a.get().to_bits() != b.to_bits());
         pairs.map(differ).sum()
     }

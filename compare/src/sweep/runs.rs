@@ -4,8 +4,8 @@
 use super::EXTENTS;
 use super::field::{Field, List, Run};
 use crate::face::Four;
-use crate::fields::{self, KINDS};
 use crate::inputs::Source;
+use crate::kinds::{self, KINDS};
 use crate::tally::Tally;
 use crate::update;
 
@@ -37,7 +37,7 @@ pub fn compare(tally: &mut Tally) {
     }
     for ext in LARGE {
         for name in ON_LARGE {
-            let number = fields::number_of(name);
+            let number = kinds::number_of(name);
             let mut field = Field::new(&KINDS[number], [number as u64, 0], ext);
             field.half_sweep(tally, &mut source, 2, 1);
         }

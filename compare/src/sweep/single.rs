@@ -4,9 +4,9 @@
 use super::EXTENTS;
 use crate::calls::{FINISHED, FRAME_OVERRELAX, OPEN_OVERRELAX, OVERRELAX_LINK};
 use crate::face::Four;
-use crate::fields::{self, KINDS, Kind};
 use crate::ground::{Ground, Lists};
 use crate::inputs::Source;
+use crate::kinds::{self, KINDS, Kind};
 use crate::rows::{Arguments, Job};
 use crate::tally::Tally;
 
@@ -48,10 +48,10 @@ pub fn compare(tally: &mut Tally) {
 }
 
 fn field(tally: &mut Tally, source: &mut Source, kind: &Kind, label: [u64; 2], ext: Four) {
-    let links = fields::links(kind, ext, label[1]);
+    let links = kinds::links(kind, ext, label[1]);
     let lists = Lists::new(links.clone(), vec![]);
-    let lent = lists.lend();
-    let good = lent.arguments(ext, links.len(), 0);
+    let padded = lists.padded();
+    let good = padded.arguments(ext, links.len(), 0);
     let sites = good.sites() as u64;
     let mut ground = Ground::new(label, ext, lists);
     for _ in 0..LINKS {
@@ -62,7 +62,7 @@ fn field(tally: &mut Tally, source: &mut Source, kind: &Kind, label: [u64; 2], e
             site,
             ..good
         };
-        ground.check(tally, &OVERRELAX_LINK, &a, &lent);
+        ground.check(tally, &OVERRELAX_LINK, &a, &padded);
     }
     for _ in 0..JOBS {
         let a = Arguments {
@@ -70,8 +70,8 @@ fn field(tally: &mut Tally, source: &mut Source, kind: &Kind, label: [u64; 2], e
             size: source.size(sites / 2),
             ..good
         };
-        ground.check(tally, &FRAME_OVERRELAX, &a, &lent);
-        ground.check(tally, &FINISHED, &a, &lent);
+        ground.check(tally, &FRAME_OVERRELAX, &a, &padded);
+        ground.check(tally, &FINISHED, &a, &padded);
     }
     for _ in 0..OPENINGS {
         let a = Arguments {
@@ -82,7 +82,7 @@ fn field(tally: &mut Tally, source: &mut Source, kind: &Kind, label: [u64; 2], e
             parity: source.sometimes_far(2) as usize,
             ..good
         };
-        ground.check(tally, &OPEN_OVERRELAX, &a, &lent);
+        ground.check(tally, &OPEN_OVERRELAX, &a, &padded);
     }
 }
 

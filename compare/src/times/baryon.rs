@@ -10,8 +10,8 @@ use super::flat as whole_flat;
 use super::reference::su3::baryon as whole;
 use super::reference::su3::lattice::Su3Lattice as Whole;
 use crate::face::{self, Accumulator, Four, Offset, Offsets};
-use crate::fields::{self, KINDS};
 use crate::flat;
+use crate::kinds::{self, KINDS};
 use crate::reference::su3::baryon::staircase;
 use crate::reference::su3::lattice::Su3Lattice;
 use crate::reference::su3::mat::Su3;
@@ -55,8 +55,8 @@ struct Field {
 type Pass = fn(&Field) -> u64;
 
 pub fn rows() -> Vec<Row> {
-    let group = &KINDS[fields::number_of("group")];
-    let links = fields::links(group, EXT, 1);
+    let group = &KINDS[kinds::number_of("group")];
+    let links = kinds::links(group, EXT, 1);
     let [field, far] = [QUARKS, NINE_STEPS].map(|quarks| Field::new(&links, quarks));
     let [one, two] = [1, 2].map(|count| Adding::new(&links, count));
     let made: [Pass; 2] = [loops, rust_loops];

@@ -14,8 +14,8 @@
 
 use super::reference::su3::lattice as whole;
 use crate::face::{self, Four};
-use crate::fields::{self, KINDS};
 use crate::flat;
+use crate::kinds::{self, KINDS};
 use crate::reference::su3::lattice::Su3Lattice;
 use crate::reference::su3::mat::Su3;
 use crate::stopwatch::Row;
@@ -43,14 +43,14 @@ type Pass = fn(&Field) -> u64;
 
 impl Field {
     fn new(ext: Four) -> Self {
-        let group = &KINDS[fields::number_of("group")];
-        Self::of(ext, fields::links(group, ext, 1))
+        let group = &KINDS[kinds::number_of("group")];
+        Self::of(ext, kinds::links(group, ext, 1))
     }
 
     /// With one number of 3 in the middle of the list.
     fn with_three(ext: Four) -> Self {
-        let group = &KINDS[fields::number_of("group")];
-        let mut links = fields::links(group, ext, 1);
+        let group = &KINDS[kinds::number_of("group")];
+        let mut links = kinds::links(group, ext, 1);
         let middle = links.len() / 2;
         links[middle] = 3.0;
         Self::of(ext, links)

@@ -3,8 +3,8 @@
 
 use super::reference::su3::lattice as whole;
 use crate::face::{self, Four};
-use crate::fields::{self, KINDS};
 use crate::flat;
+use crate::kinds::{self, KINDS};
 use crate::reference::su3::lattice::Su3Lattice;
 use crate::reference::su3::mat::Su3;
 use crate::stopwatch::Row;
@@ -32,8 +32,8 @@ type Pass = fn(&Field) -> u64;
 
 impl Field {
     fn new(ext: Four) -> Self {
-        let group = &KINDS[fields::number_of("group")];
-        let plain = fields::links(group, ext, 1);
+        let group = &KINDS[kinds::number_of("group")];
+        let plain = kinds::links(group, ext, 1);
         Self {
             ext,
             sites: ext.iter().product(),
@@ -94,7 +94,7 @@ fn rust_plaquette(lattice: &Su3Lattice, site: usize, [mu, nu]: [usize; 2]) -> Su
 
 fn staples(field: &Field) -> u64 {
     (0..field.sites).fold(0, |sum, site| {
-        let (_, out) = face::staple(&field.ext, 6.0, site, site % 4, &field.lent);
+        let (_, out) = face::staple(&field.ext, 6.0, [site, site % 4], &field.lent);
         sum ^ out[0].to_bits()
     })
 }

@@ -4,8 +4,8 @@
 use super::flat;
 use super::reference::su3::lattice as whole;
 use crate::face::{self, Four, Job, Mat};
-use crate::fields::{self, KINDS};
 use crate::inputs::Source;
+use crate::kinds::{self, KINDS};
 use crate::reference::su3::lattice::overrelaxed;
 use crate::reference::su3::mat::Su3;
 use crate::reference::su3::rng::Rng;
@@ -37,8 +37,8 @@ type Pass = fn(&Field) -> u64;
 
 impl Field {
     fn new(ext: Four) -> Self {
-        let group = &KINDS[fields::number_of("group")];
-        let links = fields::links(group, ext, 1);
+        let group = &KINDS[kinds::number_of("group")];
+        let links = kinds::links(group, ext, 1);
         Self {
             ext,
             sites: ext.iter().product(),

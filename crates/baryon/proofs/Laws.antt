@@ -10,7 +10,7 @@ use Rattle.mat.specs.Matrix.{zeroOf}
 use Rattle.stairs.specs.Staircase.{stepsTo}
 use Rattle.paths.specs.Path.{Transporter}
 use Rattle.baryon.specs.Situations.{manySteps, badStepRoom}
-use Rattle.baryon.specs.Calls.{pathAnswer}
+use Rattle.baryon.specs.Calls.{refusedPath, pathAnswer}
 
 pub many-steps : {n : ℕ} → 96 < n → manySteps n ≡ true
 unfolding manySteps
@@ -29,7 +29,7 @@ module _ (o : List ℤ) where
   unfolding badStepRoom
   good-step-room h = rw (le-ltb _ _ h)
 
-pub path-refused : {r row : ℕ} (w : Transporter) → r ≡ row → (r ≡ 0 → ⊥) → record { refusal = r; matrix = zeroOf; site = 0 } ≡ pathAnswer row w
+pub path-refused : {r row : ℕ} (w : Transporter) → r ≡ row → (r ≡ 0 → ⊥) → refusedPath r ≡ pathAnswer row w
 unfolding pathAnswer
 path-refused {r} {row} w same ne = rw (← same, if-refused (w .u) zeroOf r ne, if-refused (w .site) 0 r ne)
 

@@ -11,7 +11,7 @@ use lib.Ieee.{Float}
 use Rattle.rows.specs.Rows.{firstRow, ifAccepted, finally}
 use Rattle.rows.proofs.Laws.{row-passed, rows-refuse, rows-pass, if-refused, if-accepted, last-row}
 use Rattle.mat.specs.declared.Su3.{Su3}
-use Rattle.mat.specs.Matrix.{identityOf, zeroOf}
+use Rattle.mat.specs.Matrix.{identityOf}
 use Rattle.mat.specs.Product.{mulOf, mulDagOf}
 use Rattle.geometry.specs.Radix.{volume}
 use Rattle.geometry.specs.Shape.{Shape}
@@ -27,11 +27,8 @@ use Rattle.paths.specs.Path.{Transporter, stepOf, stepsFrom, pathOf, lineOf, wa
 use Rattle.paths.proofs.Walks.{spot-site, step-below}
 use Rattle.baryon.specs.declared.PathAnswer.{PathAnswer}
 use Rattle.baryon.specs.Situations.{badAxes, walkRows, lineRows}
-use Rattle.baryon.specs.Calls.{pathAnswer, pathCall, lineCall}
+use Rattle.baryon.specs.Calls.{refusedPath, pathAnswer, pathCall, lineCall}
 use Rattle.baryon.specs.Walk.{Walkable, transporterOf, openedOf, steppedOf, closedOf}
-
-abbrev refusedBy : ℕ → PathAnswer
-refusedBy row = record { refusal = row; matrix = zeroOf; site = 0 }
 
 abbrev accepted : Transporter → PathAnswer
 accepted t = record { refusal = 0; matrix = t .u; site = t .site }
@@ -76,7 +73,7 @@ module _ (d : List ℕ) (l : List Float) (w : PathAnswer) (s : Step) where
   stepped-refused ne = sym (if-refused _ w (w .refusal) ne)
 
   module _ (ok : w .refusal ≡ 0) where
-    pub stepped-off : 3 < s .axis → refusedBy 11 ≡ steppedOf d l w s
+    pub stepped-off : 3 < s .axis → refusedPath 11 ≡ steppedOf d l w s
     unfolding steppedOf ifAccepted pathAnswer firstRow
     stepped-off h = rw (ok, lt-ltb _ _ h)
 
@@ -110,19 +107,19 @@ module _ (d : List ℕ) (l : List Float) where
   abbrev U : Field
   U = linkOf d l
 
-  refused-stays : (r : ℕ) (steps : List Step) → walkedBy d l (refusedBy (suc r)) steps ≡ refusedBy (suc r)
+  refused-stays : (r : ℕ) (steps : List Step) → walkedBy d l (refusedPath (suc r)) steps ≡ refusedPath (suc r)
   unfolding walkedBy steppedOf ifAccepted
   refused-stays r [] = refl
   refused-stays r (s ∷ steps) = refused-stays r steps
 
-  walked : (t : Transporter) (steps : List Step) → walkedBy d l (accepted t) steps ≡ cond (badAxes steps) (refusedBy 11) (accepted (stepsFrom d U t steps))
+  walked : (t : Transporter) (steps : List Step) → walkedBy d l (accepted t) steps ≡ cond (badAxes steps) (refusedPath 11) (accepted (stepsFrom d U t steps))
   unfolding walkedBy steppedOf ifAccepted badAxes stepsFrom pathAnswer firstRow
   walked t [] = refl
   walked t (s ∷ steps) = go (ltb 3 (s .axis)) (walked (stepOf d U t s) steps)
     where
       go : (b : Bool)
-          → walkedBy d l (accepted (stepOf d U t s)) steps ≡ cond (badAxes steps) (refusedBy 11) (accepted (stepsFrom d U (stepOf d U t s) steps))
-          → walkedBy d l (pathAnswer (cond b 11 0) (stepOf d U t s)) steps ≡ cond (b || badAxes steps) (refusedBy 11) (accepted (stepsFrom d U (stepOf d U t s) steps))
+          → walkedBy d l (accepted (stepOf d U t s)) steps ≡ cond (badAxes steps) (refusedPath 11) (accepted (stepsFrom d U (stepOf d U t s) steps))
+          → walkedBy d l (pathAnswer (cond b 11 0) (stepOf d U t s)) steps ≡ cond (b || badAxes steps) (refusedPath 11) (accepted (stepsFrom d U (stepOf d U t s) steps))
       go true ih = refused-stays 10 steps
       go false ih = ih
 
@@ -136,7 +133,7 @@ module _ (d : List ℕ) (l : List Float) where
     abbrev answer : ℕ → PathAnswer
     answer row = pathAnswer (finally row (badMatrix (end .u), 10)) end
 
-    closes : (b : Bool) → closedOf (cond b (refusedBy 11) (accepted end)) ≡ answer (firstRow ((b, 11) ∷ []))
+    closes : (b : Bool) → closedOf (cond b (refusedPath 11) (accepted end)) ≡ answer (firstRow ((b, 11) ∷ []))
     unfolding closedOf ifAccepted finally firstRow pathAnswer
     closes true = refl
     closes false = refl

@@ -1,10 +1,11 @@
 -- What each call answers, and what the list of steps holds afterwards.
 use Prim.Native.Nat.{ℕ}
+use mathlib.Core.Bool.{cond}
 use mathlib.Core.List.{List, _++_}
 use mathlib.Core.Path.{_≡_}
 use lib.Ieee.{Float}
 use lib.IntN.{ℤ}
-use lib.ListN.{length, drop, replicate}
+use lib.ListN.{length, take, drop, replicate}
 use Rattle.rows.specs.declared.Count.{Count}
 use Rattle.rows.specs.declared.Number.{Number}
 use Rattle.rows.specs.Rows.{firstRow, ifAccepted, finally}
@@ -18,7 +19,7 @@ use Rattle.paths.specs.Path.{Transporter, pathOf, lineOf}
 use Rattle.contraction.specs.Baryon.{baryonOf}
 use Rattle.baryon.specs.declared.StairsAnswer.{StairsAnswer}
 use Rattle.baryon.specs.declared.PathAnswer.{PathAnswer}
-use Rattle.baryon.specs.Situations.{stairRows, pathRows, lineRows, loopRows}
+use Rattle.baryon.specs.Situations.{manySteps, stairRows, walkRows, pathRows, lineRows, loopRows}
 
 -- ## The staircase: steps to the front, later places stay
 
@@ -39,6 +40,9 @@ StaircaseByRef o r = StaircaseCall o noSteps (r .answer) (r .steps)
 
 -- ## Products of links
 
+abbrev pub refusedPath : ℕ → PathAnswer
+refusedPath row = record { refusal = row; matrix = zeroOf; site = 0 }
+
 unfoldable pub pathAnswer : ℕ → Transporter → PathAnswer
 pathAnswer row w = record { refusal = row; matrix = ifAccepted row (w .u) zeroOf; site = ifAccepted row (w .site) 0 }
 
@@ -46,6 +50,11 @@ unfoldable pub pathCall : List ℕ → ℕ → List Float → List Step → Path
 pathCall d n l steps =
     let w = pathOf d (linkOf d l) n steps in
     pathAnswer (finally (firstRow (pathRows d (length l) n steps)) (badMatrix (w .u), 10)) w
+
+-- the same along the first of 96 steps, as many as count says
+unfoldable pub pathByRef : List ℕ → ℕ → List Float → List Step → ℕ → PathAnswer
+pathByRef d n l steps count =
+    cond (manySteps count) (refusedPath (firstRow (walkRows d (length l) n count))) (pathCall d n l (take count steps))
 
 unfoldable pub lineCall : List ℕ → ℕ → ℕ → List Float → PathAnswer
 lineCall d n t l =

@@ -1,12 +1,14 @@
 use crate::PathAnswer;
 use crate::StairsAnswer;
+use crate::checks::path_row;
 use crate::staircases::staircase;
 use crate::walk::path;
+use crate::walk::refused_path;
 use stairs::Step;
 ghost use mathlib.Core.Path.{_≡_};
-ghost use Prim.Native.Nat.{min};
+ghost use Prim.Native.Nat.{_≤_};
 ghost use lib.ListN.{take};
-ghost use Rattle.baryon.specs.Calls.{pathCall, StaircaseByRef};
+ghost use Rattle.baryon.specs.Calls.{pathCall, pathByRef, StaircaseByRef};
 
 // The staircase in a list of its own.
 pub fn staircase_by_ref(d: [i32; 3]) -> StairsAnswer
@@ -20,17 +22,22 @@ pub fn staircase_by_ref(d: [i32; 3]) -> StairsAnswer
     StairsAnswer { answer, steps }
 }
 
-// As many places as there are of an array of 96.
-fn of_96(count: usize) -> usize
-    ensures { λ r. ⌜ r ≡ min count 96 ⌝ }
+// The path along the first steps of an array: as many as count says.
+fn path_along_first(
+    extents: [usize; 4],
+    site: usize,
+    links: &[f64],
+    steps: [Step; 96],
+    count: usize,
+) -> PathAnswer
+    requires { ⌜ count ≤ 96 ⌝ }
+    ensures { λ r. ⌜ r ≡ pathCall extents site (now (links .entry)) (take count steps) ⌝ }
 {
-    if count < 96 {
-        return count;
-    }
-    96
+    let s = steps;
+    path(extents, site, links, &s[..count])
 }
 
-// The path along the first steps of an array: as many as count says, at most all.
+// The same, refused where count is above 96.
 pub fn path_by_ref(
     extents: [usize; 4],
     site: usize,
@@ -38,9 +45,10 @@ pub fn path_by_ref(
     steps: [Step; 96],
     count: usize,
 ) -> PathAnswer
-    ensures { λ r. ⌜ r ≡ pathCall extents site (now (links .entry)) (take count steps) ⌝ }
+    ensures { λ r. ⌜ r ≡ pathByRef extents site (now (links .entry)) steps count ⌝ }
 {
-    let s = steps;
-    let n = of_96(count);
-    path(extents, site, links, &s[..n])
+    if count > 96 {
+        return refused_path(path_row(extents, links.len(), site, count));
+    }
+    path_along_first(extents, site, links, steps, count)
 }

@@ -13,7 +13,7 @@ pub use quarks::baryon_loop;
 use rows::Count;
 pub use staircases::staircase;
 pub use staircases::staircase_codes;
-use stairs::Step;
+pub use stairs::Step;
 pub use walk::path;
 pub use walk::path_codes;
 pub use walk::time_line;

@@ -6,14 +6,13 @@ use stairs::Step;
 ghost use mathlib.Core.Path.{_≡_};
 ghost use mathlib.Core.List.{[], _∷_, map};
 ghost use Rattle.rows.specs.Rows.{firstRow};
-ghost use Rattle.mat.specs.Matrix.{zeroOf};
 ghost use Rattle.field_checks.specs.Situations.{badMatrix};
 ghost use Rattle.baryon.specs.Walk.{Walkable, openedOf, steppedOf, closedOf};
 ghost use Rattle.baryon.specs.Codes.{stepOfCode};
-ghost use Rattle.baryon.specs.Calls.{pathAnswer, pathCall, lineCall};
+ghost use Rattle.baryon.specs.Calls.{refusedPath, pathAnswer, pathCall, lineCall};
 
-fn refused_path(row: u32) -> PathAnswer
-    ensures { λ r. ⌜ r ≡ record { refusal = row; matrix = zeroOf; site = 0 } ⌝ }
+pub fn refused_path(row: u32) -> PathAnswer
+    ensures { λ r. ⌜ r ≡ refusedPath row ⌝ }
 {
     PathAnswer {
         refusal: row,

@@ -1,5 +1,6 @@
-// The lines of replay on matrices, sites, fields and sweeps.
+// The lines of replay on complex numbers, matrices, sites, fields and sweeps.
 mod arithmetic;
+mod complex_lines;
 pub mod field_lines;
 mod site_lines;
 mod sweep_lines;
@@ -31,6 +32,7 @@ fn sweep_part() {
 }
 
 pub fn all_lines() {
+    complex_lines::lines();
     arithmetic::lines(Set::Raw);
     arithmetic::lines(Set::Units);
     let mut links = [0.0; 1152];

@@ -1,12 +1,13 @@
+// Lines along time, in a field of zeros.
 use crate::Tally;
 use mat::Su3;
 
-// A field of zeros: a line of no links is the identity all the same.
 fn line(t: Tally, links: &[f64], t_len: usize, label: &[u8], row: u64) -> Tally {
     let got = baryon::time_line([2, 2, 2, 2], 5, t_len, links);
     t.whole(label, got.refusal as u64, row)
 }
 
+// A line of no links is the identity, whatever the field.
 fn identity(tally: Tally, links: &[f64]) -> Tally {
     let got = baryon::time_line([2, 2, 2, 2], 5, 0, links);
     let u = got.matrix;
@@ -16,23 +17,9 @@ fn identity(tally: Tally, links: &[f64]) -> Tally {
     t.whole(b"time length 0 ends at ", got.site as u64, 5)
 }
 
-// Two steps of a staircase, along a list that is lent, from site 0: 0 1 0 and then 1 0 0.
-fn path(tally: Tally, links: &[f64]) -> Tally {
-    let stairs = baryon::staircase_by_ref([1, 1, 0]);
-    let steps = stairs.steps;
-    let got = baryon::path_by_ref([2, 2, 2, 2], 0, links, steps, 2);
-    let t = tally.whole(
-        b"row that refuses the path to 1 1 0 ",
-        got.refusal as u64,
-        0,
-    );
-    t.whole(b"path to 1 1 0 ends at ", got.site as u64, 6)
-}
-
 pub fn points(tally: Tally) -> Tally {
     let links = [0.0; 1152];
     let t = identity(tally, &links[..]);
     let t = line(t, &links[..], 64, b"row that refuses time length 64 ", 0);
-    let t = line(t, &links[..], 65, b"row that refuses time length 65 ", 11);
-    path(t, &links[..])
+    line(t, &links[..], 65, b"row that refuses time length 65 ", 11)
 }

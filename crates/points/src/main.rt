@@ -2,7 +2,11 @@
 // run, printed beside a label, and compared. Standard output is held to the stored one as well.
 mod lines;
 mod overrelaxation;
+mod paths;
 mod staircases;
+
+use mat::Su3;
+use sample::hash::pattern;
 
 // What splitmix64 gives from the states 0 and 1234567, and xoshiro256++ from 1, 2, 3, 4; where they
 // come from is in docs/DECISIONS.md.
@@ -72,6 +76,23 @@ impl Tally {
         io::print_hex(1, got, 16);
         self.count(got == wanted)
     }
+
+    // The same of any number; every NaN is one.
+    fn number(self, label: &[u8], got: f64, wanted: f64) -> Tally {
+        self.bits(label, pattern(got), pattern(wanted))
+    }
+
+    // The 18 numbers of a matrix, row by row.
+    fn matrix(self, label: &[u8], got: Su3, wanted: &[f64; 18]) -> Tally {
+        let m = got.m;
+        let mut t = self;
+        for k in 0..9usize {
+            let z = m[k];
+            t = t.number(label, z.re, wanted[2 * k]);
+            t = t.number(label, z.im, wanted[2 * k + 1]);
+        }
+        t
+    }
 }
 
 fn splitmix64(tally: Tally, seed: u64, wanted: &[u64; 5]) -> Tally {
@@ -105,14 +126,14 @@ fn xoshiro256(tally: Tally, wanted: &[u64; 10]) -> Tally {
 fn sites(extents: [usize; 4]) -> u64 {
     match lattice::n_sites(extents) {
         rows::Count::Value(n) => n as u64,
-        rows::Count::Refused(row) => 0,
+        rows::Count::Refused(_) => 0,
     }
 }
 
 // The row that refuses the extents, and 0 where none does.
 fn refusal(extents: [usize; 4]) -> u64 {
     match lattice::n_sites(extents) {
-        rows::Count::Value(n) => 0,
+        rows::Count::Value(_) => 0,
         rows::Count::Refused(row) => row as u64,
     }
 }
@@ -139,6 +160,7 @@ fn main() {
     let t = overrelaxation::points(t);
     let t = staircases::points(t);
     let t = lines::points(t);
+    let t = paths::points(t);
     io::print_decimal(1, t.compared as u64);
     io::write_all(1, b" compared, ");
     io::print_decimal(1, t.differ as u64);

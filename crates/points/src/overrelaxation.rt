@@ -1,59 +1,40 @@
 use crate::Tally;
 use lattice::Plan;
 use mat::Su3;
+use sample::hash::pattern;
 use sweep::Job;
 
-// The identity after its update, by its bits. As numbers they are the identity's; the last row is a
-// cross product, and its imaginary parts are -0.
-const UPDATED: [u64; 18] = [
-    0x3ff0_0000_0000_0000,
-    0,
-    0,
-    0,
-    0,
-    0,
-    0,
-    0,
-    0x3ff0_0000_0000_0000,
-    0,
-    0,
-    0,
-    0,
-    0x8000_0000_0000_0000,
-    0,
-    0x8000_0000_0000_0000,
-    0x3ff0_0000_0000_0000,
-    0x8000_0000_0000_0000,
+// The identity after its update. As numbers they are the identity's; the last row is a cross product,
+// and its imaginary parts are -0.
+const UPDATED: [f64; 18] = [
+    1.0,
+    0.0,
+    0.0,
+    0.0,
+    0.0,
+    0.0,
+    0.0,
+    0.0,
+    1.0,
+    0.0,
+    0.0,
+    0.0,
+    0.0,
+    -0.0,
+    0.0,
+    -0.0,
+    1.0,
+    -0.0,
 ];
-
-// The bits of an f64, and of every NaN the same ones.
-fn bits_of(x: f64) -> u64 {
-    if x == x {
-        f64::to_bits(x)
-    } else {
-        0x7ff8_0000_0000_0000
-    }
-}
-
-fn matrix(tally: Tally, u: Su3, wanted: &[u64; 18]) -> Tally {
-    let m = u.m;
-    let mut t = tally;
-    for k in 0..9usize {
-        let z = m[k];
-        t = t.bits(b"updated identity ", bits_of(z.re), wanted[2 * k]);
-        t = t.bits(b"updated identity ", bits_of(z.im), wanted[2 * k + 1]);
-    }
-    t
-}
 
 // The identity's update with itself scaled as the staple: the scale is every norm.
 fn norm(t: Tally, scale: f64, wanted: u64) -> Tally {
     let r = sweep::update_link(Su3::IDENTITY, Su3::IDENTITY.scale(scale));
     io::write_all(1, b"row that refuses the norm ");
-    io::print_hex(1, bits_of(scale), 16);
+    io::print_hex(1, pattern(scale), 16);
     let t = t.whole(b" ", r.refusal as u64, wanted);
     if wanted == 0 {
-        return matrix(t, r.matrix, &UPDATED);
+        return t.matrix(b"updated identity ", r.matrix, &UPDATED);
     }
     t
 }

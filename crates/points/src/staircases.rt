@@ -1,6 +1,6 @@
 use crate::Tally;
+use baryon::Step;
 use rows::Count;
-use stairs::Step;
 
 // The steps as the digits of a number: twice the axis, and 1 more where it goes forward.
 fn digits(steps: [Step; 96], count: usize) -> u64 {
@@ -23,7 +23,7 @@ fn staircase(tally: Tally, d: [i32; 3], label: &[u8], wanted: u64) -> Tally {
     let steps = got.steps;
     match answer {
         Count::Value(n) => tally.whole(label, digits(steps, n), wanted),
-        Count::Refused(row) => tally.whole(label, 0, wanted),
+        Count::Refused(_) => tally.whole(label, 0, wanted),
     }
 }
 
@@ -31,7 +31,7 @@ fn staircase(tally: Tally, d: [i32; 3], label: &[u8], wanted: u64) -> Tally {
 fn refusal(d: [i32; 3]) -> u64 {
     let answer = baryon::staircase_by_ref(d).answer;
     match answer {
-        Count::Value(n) => 0,
+        Count::Value(_) => 0,
         Count::Refused(row) => row as u64,
     }
 }

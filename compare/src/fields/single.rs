@@ -13,20 +13,20 @@ const SOME: usize = 40;
 
 pub fn compare(tally: &mut Tally, source: &mut Source, label: [u64; 2], ext: Four, links: &[f64]) {
     let lists = Lists::new(links.to_vec(), vec![]);
-    let lent = lists.lend();
-    let good = lent.arguments(ext, links.len(), 0);
+    let padded = lists.padded();
+    let good = padded.arguments(ext, links.len(), 0);
     let mut ground = Ground::new(label, ext, lists);
     for site in sites(source, good.sites()) {
         let a = Arguments { site, ..good };
-        ground.check(tally, &FIELD_STRENGTH_AT, &a, &lent);
+        ground.check(tally, &FIELD_STRENGTH_AT, &a, &padded);
         for mu in 0..4 {
             // The listed ones come round, so that each site meets others.
             let listed = RHOS[(4 * site + mu) % RHOS.len()];
             for rho in [listed, source.rho()] {
-                ground.check(tally, &STOUT_LINK, &Arguments { mu, rho, ..a }, &lent);
+                ground.check(tally, &STOUT_LINK, &Arguments { mu, rho, ..a }, &padded);
             }
             for nu in 0..4 {
-                ground.check(tally, &CLOVER_LEAVES, &Arguments { mu, nu, ..a }, &lent);
+                ground.check(tally, &CLOVER_LEAVES, &Arguments { mu, nu, ..a }, &padded);
             }
         }
     }

@@ -5,7 +5,7 @@ use crate::calls::{
 };
 use crate::face::{self, Four};
 use crate::flat;
-use crate::ground::{Ground, Lent, Lists};
+use crate::ground::{Ground, Lists, Padded};
 use crate::reference::su3::fields::FieldStrength;
 use crate::reference::su3::lattice::Su3Lattice;
 use crate::rows::{self, Arguments};
@@ -17,7 +17,7 @@ pub struct Field {
     ext: Four,
     numbers: usize,
     ground: Ground,
-    lent: Lent,
+    padded: Padded,
 }
 
 /// What was seen of action densities, in lists that are finite.
@@ -48,7 +48,7 @@ impl Field {
         Self {
             ext,
             numbers,
-            lent: lists.lend(),
+            padded: lists.padded(),
             ground: Ground::new(label, ext, lists),
         }
     }
@@ -59,10 +59,10 @@ impl Field {
 
     /// Good ones: the second list is as long as the call wants it.
     fn arguments(&self, call: &Call) -> Arguments<'_> {
-        let a = self.by_ref.arguments(self.ext, self.numbers, 0);
+        let a = self.padded.arguments(self.ext, self.numbers, 0);
         let each = rows::second(call.takes).expect("a call that fills a list");
         Arguments {
-            second: &self.by_ref.second[..each * a.sites()],
+            second: &self.padded.second[..each * a.sites()],
             ..a
         }
     }
@@ -74,7 +74,7 @@ impl Field {
             ..self.arguments(&STOUT_STEP)
         };
         self.ground
-            .fill(tally, &STOUT_STEP, &a, &self.lent, &numbers);
+            .fill(tally, &STOUT_STEP, &a, &self.padded, &numbers);
     }
 
     /// All five lists: action, charge, and the three axes.
@@ -94,7 +94,7 @@ impl Field {
             axis,
             ..self.arguments(call)
         };
-        self.ground.fill(tally, call, &a, &self.lent, numbers);
+        self.ground.fill(tally, call, &a, &self.padded, numbers);
     }
 
     /// `action_density` against the unchanged Rust's own sums: no more than the sign of a zero differs.
@@ -122,7 +122,7 @@ impl Field {
             &rattle,
             &[due, 0],
         );
-        self.ground.restore(&self.lent);
+        self.ground.restore(&self.padded);
     }
 }
 

@@ -4,8 +4,8 @@
 
 use super::lists::{self, Actions, Field};
 use crate::face::Four;
-use crate::fields::{self, KINDS};
 use crate::inputs::Source;
+use crate::kinds::{self, KINDS};
 use crate::rows;
 use crate::tally::Tally;
 
@@ -49,8 +49,8 @@ pub fn compare(tally: &mut Tally, source: &mut Source, actions: &mut Actions) {
     let mut hidden = 0;
     for ext in EXTENTS {
         for (name, factor) in BASES {
-            let number = fields::number_of(name);
-            let base: Vec<f64> = fields::links(&KINDS[number], ext, 0)
+            let number = kinds::number_of(name);
+            let base: Vec<f64> = kinds::links(&KINDS[number], ext, 0)
                 .iter()
                 .map(|x| x * factor)
                 .collect();

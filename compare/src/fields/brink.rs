@@ -8,9 +8,9 @@
 use super::lists::{self, Actions, Field};
 use crate::calls;
 use crate::face::Four;
-use crate::fields::{self, KINDS};
 use crate::flat;
 use crate::inputs::{Source, power_of_two};
+use crate::kinds::{self, KINDS};
 use crate::reference::su3::lattice::Su3Lattice;
 use crate::rows;
 use crate::tally::Tally;
@@ -112,8 +112,8 @@ fn steps(
 }
 
 fn field(kind: &str, ext: Four, seed: u64) -> ([u64; 2], Vec<f64>) {
-    let number = fields::number_of(kind);
-    let links = fields::links(&KINDS[number], ext, seed);
+    let number = kinds::number_of(kind);
+    let links = kinds::links(&KINDS[number], ext, seed);
     ([number as u64, seed], links)
 }
 
