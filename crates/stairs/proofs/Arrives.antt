@@ -1,6 +1,6 @@
 -- The staircase arrives: along each axis the place is between the origin and the offset, and each step brings it one nearer.
 use Prim.Native.Nat.{ℕ, zero, suc, _+_, _-_, _<_, _≤_}
-use mathlib.Core.Bool.{true, false, cond, _||_, true≢false}
+use mathlib.Core.Bool.{true, cond, _||_, true≢false}
 use mathlib.Core.List.{List, [], _∷_, _++_, map}
 use mathlib.Core.Path.{_≡_, refl, ap, sym, _∙_}
 use native.Mathlib.Decide.{ℕ-discrete, decLt}
