@@ -6,7 +6,7 @@ ghost use Rattle.geometry.specs.Radix.{volume};
 ghost use Rattle.gauge.specs.Field.{linkOf, Holds};
 ghost use Rattle.gauge.specs.Polyakov.{space, polyakovTrace, polyakovOf};
 
-// The trace of the line around time at the k-th place of space. Its sites have following numbers.
+// The trace of the line around time at the k-th place of space. Its sites have consecutive numbers.
 fn loop_trace(links: &[f64], d: [usize; 4], v: usize, k: usize) -> C64
     requires { ⌜ Holds d (now links) × (v ≡ volume d) × (k < volume (space d)) ⌝ }
     ensures { λ r. ⌜ r ≡ polyakovTrace d (linkOf d (now (links .entry))) k ⌝ }
