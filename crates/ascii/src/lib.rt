@@ -9,7 +9,7 @@ ghost use Rattle.ascii.specs.Lines.{decimalText, hexText, numberText, te
 ghost use Rattle.ascii.specs.Laid.{Laid};
 
 // Bytes as they are.
-pub fn put(text: &mut [u8], at: usize, bytes: &[u8]) -> usize
+fn put(text: &mut [u8], at: usize, bytes: &[u8]) -> usize
     requires { ⌜ at + length (now bytes) ≤ length (now text) ⌝ }
     ensures { λ r. ⌜ Laid at (now (bytes .entry)) (now (text .entry)) r (now (text .exit)) ⌝ }
 {

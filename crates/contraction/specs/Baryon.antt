@@ -22,7 +22,7 @@ module _ (d : List ℕ) (U : Field) (t : ℕ) where
       let upper = pathOf d U (laterOf d n t) steps in
       mulDagOf (mulOf (lower .u) (timeLineOf d U (lower .site) t)) (upper .u)
 
-  -- Re W / 6 for three lists of steps
+  -- Re ε ε M M M / 6 for three lists of steps
   unfoldable pub loopOf : ℕ → List Step → List Step → List Step → Float
   loopOf n a b c = div binary64 (epsilonOf (quarkLineOf n a) (quarkLineOf n b) (quarkLineOf n c) .re) fsix
 

@@ -31,7 +31,7 @@ fn quark_line(
     lower.u.mul(line.u).mul_dag(upper.u)
 }
 
-// The loop of three quarks with the junction at n: Re W / 6.
+// The loop of three quarks with the junction at n: Re ε ε M M M / 6.
 pub fn baryon_loop(
     links: &[f64],
     d: [usize; 4],

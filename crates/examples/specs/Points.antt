@@ -4,8 +4,9 @@ use mathlib.Core.List.{List, [], _∷_, map}
 use mathlib.Core.Bool.{false}
 use Prim.Native.Nat.{ℕ, zero, suc}
 use lib.IntN.{ℤ, pos, negsuc}
-use lib.Ieee.{Float, fin, binary64, ofInt, toBits}
+use lib.Ieee.{Float, fin, binary64, toBits}
 use Rattle.root.specs.Sqrt.{sqrtOf}
+use Rattle.complex.specs.Rounded.{asFloat}
 use Rattle.rng.specs.declared.Rng.{Rng}
 use Rattle.rng.specs.Xoshiro.{drawOf}
 use Rattle.rng.specs.Uniform.{uniformOf}
@@ -23,10 +24,7 @@ pub record Point : Type 0 where
 abbrev bits : Float → List ℕ
 bits x = toBits binary64 x ∷ []
 
--- the f64 that is a whole number, and 2 ^ e
-abbrev whole : ℕ → Float
-whole n = ofInt binary64 (pos n)
-
+-- 2 ^ e
 abbrev twoTo : ℤ → Float
 twoTo e = fin false 1 e
 
@@ -59,12 +57,12 @@ points =
     -- the state 1, 2, 3, 4 draws 41943041, and then 58720359
     ∷ record { given = draws 2 (record { s = 1 ∷ 2 ∷ 3 ∷ 4 ∷ [] }); wanted = 41943041 ∷ 58720359 ∷ [] }
     -- the raw draw 2047 gives the uniform number 0, and 2048 gives 2 ^ -53
-    ∷ record { given = bits (uniformOf 2047); wanted = bits (whole 0) }
-    ∷ record { given = bits (uniformOf 2048); wanted = bits (twoTo (negsuc 52)) }
+    ∷ record { given = bits (uniformOf 2047); wanted = 0 ∷ [] }
+    ∷ record { given = bits (uniformOf 2048); wanted = 0x3ca0_0000_0000_0000 ∷ [] }
     -- the root of 4 is 2, that of 2 has these bits, and that of 2 ^ -1074 is 2 ^ -537
-    ∷ record { given = bits (sqrtOf (whole 4)); wanted = bits (whole 2) }
-    ∷ record { given = bits (sqrtOf (whole 2)); wanted = 0x3ff6_a09e_667f_3bcd ∷ [] }
-    ∷ record { given = bits (sqrtOf (twoTo (negsuc 1073))); wanted = bits (twoTo (negsuc 536)) }
+    ∷ record { given = bits (sqrtOf (asFloat 4)); wanted = 0x4000_0000_0000_0000 ∷ [] }
+    ∷ record { given = bits (sqrtOf (asFloat 2)); wanted = 0x3ff6_a09e_667f_3bcd ∷ [] }
+    ∷ record { given = bits (sqrtOf (twoTo (negsuc 1073))); wanted = 0x1e60_0000_0000_0000 ∷ [] }
     -- the staircase to 1, 1, 0 goes up x and then y: a tie takes the lowest axis; there is none to 0, 0, 0
     ∷ record { given = stairs 1 1 0; wanted = 3 ∷ 5 ∷ [] }
     ∷ record { given = stairs 0 0 0; wanted = [] }

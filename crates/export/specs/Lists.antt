@@ -1,16 +1,15 @@
 -- What the calls on lists of links leave: the refusal's number that is returned, and each array and lent list.
 use Prim.Native.Nat.{ℕ}
 use mathlib.Core.List.{List}
-use mathlib.Core.Path.{_≡_}
 use lib.Ieee.{Float}
 use lib.ListN.{length}
 use Rattle.rows.specs.Rows.{ifAccepted}
 use Rattle.gauge.specs.Field.{linkOf}
 use Rattle.gauge.specs.Plaquette.{averageOf, actionOf}
-use Rattle.sound.specs.Sound.{unsoundLinks, Listed}
+use Rattle.sound.specs.Sound.{unsoundLinks}
 use Rattle.lattice.specs.Answers.{averageRow, actionRow}
 use Rattle.lattice.specs.Cold.{coldRow, coldLinks}
-use Rattle.lattice.specs.Check.{checkRow}
+use Rattle.lattice.specs.Check.{checkRow, CheckList}
 use Rattle.strength.specs.declared.Density.{Density}
 use Rattle.fields.specs.Calls.{smearRow, smearedList, densityRow, densityList}
 use Rattle.export.specs.Face.{Given, CountGiven, NumberGiven}
@@ -25,11 +24,10 @@ ActionGiven d c l r out = NumberGiven (actionRow d c l) (actionOf d (linkOf d l)
 abbrev pub ColdGiven : List ℕ → Float → List Float → ℕ → List Float → Type 0
 ColdGiven d c old r new = Given (coldRow d c old) (ifAccepted (coldRow d c old) (coldLinks d) old) r new
 
--- the unsound links' numbers in some order at the front of the list, later places as they were; refused, all as it was
+-- the count of unsound links, and their numbers in some order at the front of the list
 pub record CheckGiven (d : List ℕ) (l : List Float) (old : List ℕ) (r : ℕ) (new count : List ℕ) : Type 0 where
   pub answer : CountGiven (checkRow d l old) (length (unsoundLinks d (linkOf d l))) r count
-  pub listed : checkRow d l old ≡ 0 → Listed (unsoundLinks d (linkOf d l)) old (length (unsoundLinks d (linkOf d l))) new
-  pub kept : (checkRow d l old ≡ 0 → ⊥) → new ≡ old
+  pub list : CheckList d l old new
 
 -- the second list has every smeared link, or is as it was
 abbrev pub SmearGiven : List ℕ → Float → List Float → List Float → ℕ → List Float → Type 0

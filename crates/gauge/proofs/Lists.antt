@@ -11,7 +11,7 @@ use lib.Ieee.{Float, nan}
 use lib.ListN.{length, getD}
 use lib.Seq.{ext-getD}
 use borrow.Author.Tests.{eq-eqb, ne-eqb}
-use Rattle.complex.specs.declared.C64.{C64}
+use Rattle.complex.specs.Complex.{complexOf}
 use Rattle.mat.specs.declared.Su3.{Su3}
 use Rattle.mat.specs.Matrix.{ent}
 use Rattle.geometry.specs.Radix.{volume}
@@ -24,9 +24,6 @@ use Rattle.gauge.specs.Field.{linkOf, partOf, listOf, ListIsField}
 -- two fields have the same links
 abbrev pub Same : List ℕ → Field → Field → Type 0
 Same d U W = (mu n : ℕ) → mu < 4 → n < volume d → U mu n ≡ W mu n
-
-abbrev pair : Float → Float → C64
-pair x y = record { re = x; im = y }
 
 -- the numbers of a matrix are those from its place on
 part-at : (l : List Float) (p i : ℕ) → i < 18 → partOf (matrixAt l p) i ≡ getD l (p + i) nan
@@ -106,7 +103,7 @@ module _ (d : List ℕ) where
         let odd : (2 * k + 1) % 2 ≡ 0 → ⊥ = λ z. omega arith in
         let half : 2 * k / 2 ≡ k = omega arith in
         let under : (2 * k + 1) / 2 ≡ k = omega arith in
-        ap₂ pair
+        ap₂ complexOf
         (part-of (placeOf (volume d) mu n + 2 * k) (2 * k) (omega arith) refl ∙ rw (eq-eqb (2 * k % 2) 0 even, half))
         (part-of (placeOf (volume d) mu n + 2 * k + 1) (2 * k + 1) (omega arith) (omega arith) ∙ rw (ne-eqb ((2 * k + 1) % 2) 0 odd, under))
 

@@ -1,4 +1,4 @@
--- The sites of a line around time have following numbers.
+-- The sites of a line around time have consecutive numbers.
 use Prim.Native.Nat.{ℕ, zero, suc, _+_, _*_, _%_, _<_, _≤_}
 use mathlib.Core.List.{List, [], _∷_}
 use mathlib.Core.Path.{_≡_, refl, sym}
@@ -18,7 +18,7 @@ use Rattle.geometry.proofs.Radix.{index-coords}
 use Rattle.geometry.proofs.Shape.{four-are}
 use Rattle.geometry.proofs.Stride.{stride-up}
 use Rattle.links.specs.Field.{Field}
-use Rattle.gauge.specs.Polyakov.{laterOf, timeLineOf, space, slicePlace}
+use Rattle.gauge.specs.Polyakov.{laterOf, timeLineOf, space, siteAt}
 
 -- ((1 · U_0(n)) · U_0(n + 1)) · ..
 unfoldable pub lineBy : Field → ℕ → ℕ → Su3
@@ -33,11 +33,10 @@ pub line-next : (U : Field) (n t : ℕ) {p q : Su3} → p ≡ lineBy U n t → q
 unfolding lineBy
 line-next U n t a b = rw (b, a, add-one t)
 
--- the first site of the line at the k-th place of space
-pub slice-place : (d : List ℕ) → 0 < length d → (k : ℕ) → k < volume (space d) → slicePlace d k ≡ getD d 0 0 * k
-unfolding indexOf
-slice-place [] p k h = absurd (omega arith)
-slice-place (e ∷ d) p k h = rw (index-coords d k h) (zero-add (e * k))
+pub site-at : (d : List ℕ) → 0 < length d → (t k : ℕ) → k < volume (space d) → siteAt d t k ≡ t + getD d 0 0 * k
+unfolding siteAt indexOf
+site-at [] p t k h = absurd (omega arith)
+site-at (e ∷ d) p t k h = rw (index-coords d k h)
 
 pub line-below : (d : List ℕ) → 0 < length d → (k t : ℕ) → k < volume (space d) → t < getD d 0 0 → getD d 0 0 * k + t < volume d
 unfolding volume
@@ -45,6 +44,9 @@ line-below [] p k t h g = absurd (omega arith)
 line-below (e ∷ d) p k t h g =
     let next : k + 1 ≤ volume d = omega arith in
     omega (arith, mul-le-mul-left e next, mul-add e k 1)
+
+pub site-below : (d : List ℕ) → 0 < length d → (t k : ℕ) → t < getD d 0 0 → k < volume (space d) → siteAt d t k < volume d
+site-below d p t k h g = rw (site-at d p t k g) (omega (arith, line-below d p k t g h))
 
 -- one step on
 step-on : (d : List ℕ) (n : ℕ) → n < volume d → 0 < length d → n % getD d 0 0 + 1 < getD d 0 0 → fwdOf d n 0 ≡ n + 1
@@ -69,8 +71,8 @@ module _ (d : List ℕ) (axis : 0 < length d) (k : ℕ) (place : k < volume (spa
   line-is U zero h = refl
   line-is U (suc t) h = rw (line-is U t (omega arith), later-is t h)
 
-  pub line-by : (U : Field) (t : ℕ) → t ≡ nt → lineBy U (nt * k) t ≡ timeLineOf d U (slicePlace d k) nt
-  line-by U t e = rw (slice-place d axis k place, e) (line-is U nt (omega arith))
+  pub line-by : (U : Field) (t : ℕ) → t ≡ nt → lineBy U (nt * k) t ≡ timeLineOf d U (siteAt d 0 k) nt
+  line-by U t e = rw (site-at d axis 0 k place, zero-add (nt * k), e) (line-is U nt (omega arith))
 
 -- ## the number of places of space
 

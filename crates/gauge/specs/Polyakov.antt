@@ -27,13 +27,13 @@ timeLineOf d U n (suc t) = mulOf (timeLineOf d U n t) (U 0 (laterOf d n t))
 abbrev pub space : List ℕ → List ℕ
 space d = drop 1 d
 
--- the site at time 0 and the k-th place of space, x fastest
-abbrev pub slicePlace : List ℕ → ℕ → ℕ
-slicePlace d k = indexOf d (0 ∷ coordsOf (space d) k)
+-- the site at time t and the k-th place of space, x fastest
+unfoldable pub siteAt : List ℕ → ℕ → ℕ → ℕ
+siteAt d t k = indexOf d (t ∷ coordsOf (space d) k)
 
 -- the trace of the line around time at the k-th place
 unfoldable pub polyakovTrace : List ℕ → Field → ℕ → C64
-polyakovTrace d U k = traceOf (timeLineOf d U (slicePlace d k) (getD d 0 0))
+polyakovTrace d U k = traceOf (timeLineOf d U (siteAt d 0 k) (getD d 0 0))
 
 -- ⟨Tr Π U_0⟩ / 3 over all places of space: the sum from 0, times 1 / (3 · places)
 unfoldable pub polyakovOf : List ℕ → Field → C64

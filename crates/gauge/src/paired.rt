@@ -5,7 +5,7 @@ ghost use Rattle.complex.specs.Complex.{czero, cadd};
 ghost use Rattle.mat.specs.Matrix.{zeroOf, addOf};
 ghost use Rattle.gauge.specs.Paired.{pairOf, firstOf, secondOf, matrixOf};
 
-// Two complex numbers side by side, which is what the machine's pairs of f64 are for.
+// Two complex numbers side by side, which is what vector registers of two f64 are for.
 pub struct Pair {
     pub re0: f64,
     pub re1: f64,

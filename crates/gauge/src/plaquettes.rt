@@ -58,8 +58,8 @@ fn diagonal(links: &[f64], a: usize, b: usize, c: usize, e: usize, i: usize) -> 
     s.re
 }
 
-// The sum of the first two of these. Two rows are worked out side by side, which is what the
-// machine's pairs of f64 are for.
+// The sum of the first two of these. Two rows are worked out side by side, which is what vector
+// registers of two f64 are for.
 fn first_two(links: &[f64], a: usize, b: usize, c: usize, e: usize) -> f64
     requires { ⌜ TwoMatrices (now links) a b × TwoMatrices (now links) c e ⌝ }
     ensures { λ r. ⌜ r ≡ diagonalAt (now (links .entry)) a b c e 0 ⊞ diagonalAt (now (links .entry)) a b c e 1 ⌝ }

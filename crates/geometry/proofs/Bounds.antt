@@ -51,15 +51,15 @@ digit k h g l = omega (arith, product 16 k g l)
 pub fits : {n : ℕ} (k : ℕ) → n ≤ k → k < 2 ^ 64 → Fits w64 n
 fits k h g = record { fits = lt-of-le-of-lt h g }
 
+pub quotient-below : {e v n : ℕ} → 0 < e → n < e * v → n / e < v
+quotient-below p i = div-lt-iff-lt-mul p .1 (rw mul-comm at i)
+
 -- what is left of a site's number after three extents is below the last
 pub last-below : (d : List ℕ) (n : ℕ) → Shape d → n < volume d → n / getD d 0 0 / getD d 1 0 / getD d 2 0 < getD d 3 0
 unfolding volume
 last-below d n s h =
     let l = shape-low d s in
-    let a = left (omega (arith, l .t)) (rw (four-are d (s .four)) at h) in
-    let b = left (omega (arith, l .x)) a in
-    let c = left (omega (arith, l .y)) b in
+    let a = quotient-below (omega (arith, l .t)) (rw (four-are d (s .four)) at h) in
+    let b = quotient-below (omega (arith, l .x)) a in
+    let c = quotient-below (omega (arith, l .y)) b in
     rw mul-one at c
-  where
-    left : {e v n : ℕ} → 0 < e → n < e * v → n / e < v
-    left p i = div-lt-iff-lt-mul p .1 (rw mul-comm at i)

@@ -1,7 +1,7 @@
 -- The claims of specs/Claims.antt.
 use native.Mathlib.Omega.{arith}
-use Rattle.geometry.specs.Claims.{FitsIsShape, CoordsInverse, NeighboursInverse, ParityFlips, SitesInOrder}
-use Rattle.geometry.proofs.Shape.{fits-shape, shape-fits}
+use Rattle.geometry.specs.Claims.{FitsIsShape, SitesAreBounded, CoordsInverse, NeighboursInverse, ParityFlips, SitesInOrder}
+use Rattle.geometry.proofs.Shape.{fits-shape, shape-fits, volume-high}
 use Rattle.geometry.proofs.Radix.{coords-within, index-below, coords-index, index-coords}
 use Rattle.geometry.proofs.Steps.{moved-flips}
 use Rattle.geometry.proofs.Neighbour.{bwd-fwd, fwd-bwd}
@@ -10,6 +10,9 @@ use Rattle.geometry.proofs.Members.{site-inside, inside-site, sites-onc
 
 pub fits-is-shape : FitsIsShape
 fits-is-shape = record { passes = shape-fits; passed = fits-shape }
+
+pub sites-are-bounded : SitesAreBounded
+sites-are-bounded = volume-high
 
 pub coords-inverse : CoordsInverse
 coords-inverse = record { within = λ d n h. coords-within d n (omega arith); index-coords = index-coords; below = index-below; coords-index = coords-index }

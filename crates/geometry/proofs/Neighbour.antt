@@ -76,10 +76,6 @@ module _ (d : List ℕ) (shape : Shape d) (n mu nu : ℕ) (below : n < volume d)
       let e = corner d n mu k nu j below m o ne in
       record { low = omega (arith, e); is = omega (arith, e); below = moved-below d (volume-pos d shape) (movedOf d n mu k) nu o j }
 
-  pub up-up : Corner d n (fwdOf d n mu) (fwdOf d n nu) (fwdOf d (fwdOf d n mu) nu)
-  unfolding fwdOf
-  up-up = corner-of 1 1
-
   pub up-down : Corner d n (fwdOf d n mu) (bwdOf d n nu) (bwdOf d (fwdOf d n mu) nu)
   unfolding fwdOf bwdOf
   up-down = corner-of 1 (getD d nu 0 - 1)

@@ -1,18 +1,18 @@
 -- The sites of one parity in ascending order: half of all, and of 2k and 2k + 1 one is the k-th.
-use Prim.Native.Nat.{ℕ, zero, suc, _+_, _*_, _/_, _%_, _<_, _≤_}
+use Prim.Native.Nat.{ℕ, zero, suc, _+_, _*_, _/_, _%_, _<_}
 use mathlib.Core.List.{List, [], _∷_, append-assoc, filter, filter-append, map}
 use mathlib.Core.Logic.{if-pos, if-neg}
 use mathlib.Core.Path.{_≡_, refl, ap, sym, _∙_}
 use native.Mathlib.Decide.{ℕ-discrete}
 use native.Mathlib.Nat.{zero-add, mul-assoc, mod-lt, mod-eq-of-lt, mod-add-div, div-eq-of-lt, add-mul-div-left, add-mul-mod-self-left}
 use native.Mathlib.Omega.{arith}
-use lib.ListN.{length, getD, take}
+use lib.ListN.{length, getD}
 use Rattle.geometry.specs.Range.{range}
 use Rattle.geometry.specs.Radix.{volume, coordsOf}
 use Rattle.geometry.specs.Shape.{Shape}
 use Rattle.geometry.specs.Steps.{total, parityOf}
 use Rattle.geometry.specs.Order.{sitesOf, halfOf, nthOf}
-use Rattle.geometry.proofs.Range.{listed-next, length-listed, listed-at, take-listed}
+use Rattle.geometry.proofs.Range.{listed-next, length-listed, listed-at}
 use Rattle.geometry.proofs.Steps.{even-rem, parity-small}
 
 -- ## the sites of a parity below 2k, for an even first extent e and any others
@@ -32,35 +32,22 @@ module _ (e : ℕ) (d : List ℕ) (pos : 0 < e) (even : e % 2 ≡ 0) where
       let h : suc a / e ≡ q = ap (λ (x : ℕ). x / e) next ∙ add-mul-div-left (suc r) q pos ∙ (rw (div-eq-of-lt small) (zero-add q)) in
       rw (m, h) (omega arith)
 
-  at-half : (n : ℕ) → nthOf (e ∷ d) (parityOf (e ∷ d) n) (n / 2) ≡ n
-  unfolding nthOf
-  at-half n = go (ℕ-discrete (n % 2) 0)
-    where
-      go : Dec (n % 2 ≡ 0) → nthOf (e ∷ d) (parityOf (e ∷ d) n) (n / 2) ≡ n
-      go (yes h) = let i : 2 * (n / 2) ≡ n = omega arith in rw i (omega arith)
-      go (no h) =
-          let i : suc (2 * (n / 2)) ≡ n = omega arith in
-          omega (arith, rw i at (pair-flips (n / 2)))
-
   module _ (p : ℕ) (two : p < 2) where
     abbrev has : (n : ℕ) → Dec (parityOf (e ∷ d) n ≡ p)
     has n = ℕ-discrete (parityOf (e ∷ d) n) p
 
-    nth-is : (k : ℕ) → Dec (parityOf (e ∷ d) (2 * k) ≡ p) → (filter has (2 * k ∷ suc (2 * k) ∷ []) ≡ nthOf (e ∷ d) p k ∷ []) × (parityOf (e ∷ d) (nthOf (e ∷ d) p k) ≡ p)
+    nth-is : (k : ℕ) → Dec (parityOf (e ∷ d) (2 * k) ≡ p) → filter has (2 * k ∷ suc (2 * k) ∷ []) ≡ nthOf (e ∷ d) p k ∷ []
     unfolding nthOf
     nth-is k (yes h) =
         let f = pair-flips k in
         let i : nthOf (e ∷ d) p k ≡ 2 * k = omega arith in
-        rw i (if-pos (has (2 * k)) h _ _ ∙ ap (λ (l : List ℕ). 2 * k ∷ l) (if-neg (has (suc (2 * k))) (λ g. absurd (omega arith)) _ _), h)
+        rw i (if-pos (has (2 * k)) h _ _ ∙ ap (λ (l : List ℕ). 2 * k ∷ l) (if-neg (has (suc (2 * k))) (λ g. absurd (omega arith)) _ _))
     nth-is k (no h) =
         let f = pair-flips k in
         let s = parity-small (e ∷ d) (2 * k) in
         let o : parityOf (e ∷ d) (suc (2 * k)) ≡ p = omega arith in
         let i : nthOf (e ∷ d) p k ≡ suc (2 * k) = omega arith in
-        rw i (if-neg (has (2 * k)) h _ _ ∙ if-pos (has (suc (2 * k))) o _ _, o)
-
-    both : (k : ℕ) → (filter has (2 * k ∷ suc (2 * k) ∷ []) ≡ nthOf (e ∷ d) p k ∷ []) × (parityOf (e ∷ d) (nthOf (e ∷ d) p k) ≡ p)
-    both k = nth-is k (has (2 * k))
+        rw i (if-neg (has (2 * k)) h _ _ ∙ if-pos (has (suc (2 * k))) o _ _)
 
     below-are : (k : ℕ) → filter has (range (2 * k)) ≡ map (nthOf (e ∷ d) p) (range k)
     unfolding range
@@ -71,7 +58,7 @@ module _ (e : ℕ) (d : List ℕ) (pos : 0 < e) (even : e % 2 ≡ 0) where
         ap (λ (x : ℕ). filter has (range x)) n
         ∙ ap (λ (l : List ℕ). filter has l) (append-assoc (range a) (a ∷ []) (suc a ∷ []))
         ∙ filter-append has (range a) (a ∷ suc a ∷ [])
-        ∙ rw (below-are k, both k .0) (sym (listed-next (nthOf (e ∷ d) p) k))
+        ∙ rw (below-are k, nth-is k (has (2 * k))) (sym (listed-next (nthOf (e ∷ d) p) k))
 
 -- ## the sites of a parity
 
@@ -91,22 +78,7 @@ pub nth-rises : (d : List ℕ) (p i k : ℕ) → i < k → nthOf d p i < nthOf d
 unfolding nthOf
 nth-rises d p i k h = omega arith
 
--- each site is one of its parity
-pub site-is-nth : (d : List ℕ) → Shape d → (n : ℕ) → nthOf d (parityOf d n) (n / 2) ≡ n
-site-is-nth [] s n = absurd (omega (arith, s .four))
-site-is-nth (e ∷ d) s n = let x = s .each 0 (omega arith) in at-half e d (omega arith) (x .even) n
-
-pub half-below : (d : List ℕ) → Shape d → (n : ℕ) → n < volume d → n / 2 < halfOf d
-half-below d s n h = omega (arith, halves d s)
-
 module _ (d : List ℕ) (shape : Shape d) (p : ℕ) (two : p < 2) where
-  pub nth-parity : (k : ℕ) → parityOf d (nthOf d p k) ≡ p
-  nth-parity k = go d shape
-    where
-      go : (d : List ℕ) → Shape d → parityOf d (nthOf d p k) ≡ p
-      go [] s = absurd (omega (arith, s .four))
-      go (e ∷ d) s = let x = s .each 0 (omega arith) in both e d (omega arith) (x .even) p two k .1
-
   pub sites-are : sitesOf d p ≡ map (nthOf d p) (range (halfOf d))
   unfolding sitesOf
   sites-are = ap (λ (v : ℕ). filter (λ n. ℕ-discrete (parityOf d n) p) (range v)) (halves d shape) ∙ go d shape (halfOf d)
@@ -120,6 +92,3 @@ module _ (d : List ℕ) (shape : Shape d) (p : ℕ) (two : p < 2) where
 
   pub site-at : (k : ℕ) → k < halfOf d → getD (sitesOf d p) k 0 ≡ nthOf d p k
   site-at k h = rw sites-are (listed-at (nthOf d p) 0 (halfOf d) k h)
-
-  pub first-sites : (s : ℕ) → s ≤ halfOf d → take s (sitesOf d p) ≡ map (nthOf d p) (range s)
-  first-sites s h = rw sites-are (take-listed (nthOf d p) (halfOf d) s h)

@@ -6,7 +6,7 @@ use native.Mathlib.Decide.{decLt}
 use native.Mathlib.Numerals.{add-one}
 use native.Mathlib.Omega.{arith}
 use lib.ListN.{length, getD, take, drop, length-append, List·getD-append, take-append-drop}
-use lib.Seq.{getD-at, take-append-le, take-all, take-suc-set, drop-set-lt}
+use lib.Seq.{getD-at, take-all, take-suc-set, drop-set-lt}
 use Rattle.folds.specs.Folds.{fill}
 use Rattle.folds.proofs.Laws.{length-fill}
 use Rattle.geometry.specs.Range.{range}
@@ -28,14 +28,6 @@ module _ {A : Type 0} (f : ℕ → A) where
       go : (j < k → getD (map f (range k)) j z ≡ f j) → Dec (j < k) → getD (map f (range k) ++ (f k ∷ [])) j z ≡ f j
       go ih (yes g) = List·getD-append (map f (range k)) (f k ∷ []) z j (rw (length-listed k) g) ∙ ih g
       go ih (no g) = let e : j ≡ k = omega arith in rw e (getD-at (map f (range k)) (f k) [] z k (length-listed k))
-
-  pub take-listed : (k j : ℕ) → j ≤ k → take j (map f (range k)) ≡ map f (range j)
-  take-listed zero j h = let e : j ≡ 0 = omega arith in rw e (unfold range in refl)
-  take-listed (suc k) j h = go (take-listed k j) (decLt j (suc k))
-    where
-      go : (j ≤ k → take j (map f (range k)) ≡ map f (range j)) → Dec (j < suc k) → take j (map f (range (suc k))) ≡ map f (range j)
-      go ih (yes q) = rw (listed-next k) (take-append-le j (map f (range k)) (f k ∷ []) (rw (length-listed k) (omega arith)) ∙ ih (omega arith))
-      go ih (no q) = let e : j ≡ suc k = omega arith in rw e (take-all (suc k) (map f (range (suc k))) (rw (length-listed (suc k)) (omega arith)))
 
   -- ## a list of which the first places are filled
   pub take-fill : (l : List A) (n : ℕ) → n ≤ length l → take n (fill f l n) ≡ map f (range n)

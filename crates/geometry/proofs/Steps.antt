@@ -2,7 +2,7 @@
 use Prim.Native.Nat.{ℕ, zero, suc, _+_, _%_, _<_}
 use mathlib.Core.List.{List, [], _∷_}
 use mathlib.Core.Path.{_≡_, ap, _∙_}
-use native.Mathlib.Nat.{add-assoc, add-zero, mod-lt, mod-eq-of-lt, mod-add-mod, add-mod-right, mod-mod-of-dvd, dvd-of-mod-eq-zero}
+use native.Mathlib.Nat.{add-assoc, mod-lt, mod-eq-of-lt, mod-add-mod, add-mod-right, mod-mod-of-dvd, dvd-of-mod-eq-zero}
 use native.Mathlib.Omega.{arith}
 use lib.ListN.{length, getD, set}
 use lib.Seq.{getD-set-same, getD-set-other, set-set, set-getD}
@@ -43,10 +43,7 @@ module _ (d : List ℕ) (pos : 0 < volume d) (n mu : ℕ) (axis : mu < length d)
   unfolding movedOf
   moved-coords k = coords-index d _ (moved-within k)
 
-  -- the coordinate on the axis, and those on others
-  pub moved-here : (k : ℕ) → getD (coordsOf d (movedOf d n mu k)) mu 0 ≡ (getD (coordsOf d n) mu 0 + k) % getD d mu 0
-  moved-here k = rw (moved-coords k) (getD-set-same (coordsOf d n) mu _ 0 coords-long)
-
+  -- the coordinates on other axes stay
   pub moved-there : (k nu : ℕ) → (nu ≡ mu → ⊥) → getD (coordsOf d (movedOf d n mu k)) nu 0 ≡ getD (coordsOf d n) nu 0
   moved-there k nu ne = rw (moved-coords k) (getD-set-other (coordsOf d n) mu nu _ 0 ne)
 
@@ -68,17 +65,11 @@ module _ (d : List ℕ) (pos : 0 < volume d) (n mu : ℕ) (axis : mu < length d)
       let r = even-rem (c + k) (getD d mu 0) even in
       rw (moved-coords k) (omega (arith, t, r))
 
-module _ (d : List ℕ) (n mu : ℕ) (below : n < volume d) (axis : mu < length d) where
-  stays : (k : ℕ) → (getD (coordsOf d n) mu 0 + k) % getD d mu 0 ≡ getD (coordsOf d n) mu 0 → movedOf d n mu k ≡ n
-  unfolding movedOf
-  stays k e = rw (e, set-getD (coordsOf d n) mu 0) (index-coords d n below)
-
-  small : getD (coordsOf d n) mu 0 < getD d mu 0
-  small = coord-below d (omega arith) n mu axis
-
-  pub moved-none : movedOf d n mu 0 ≡ n
-  moved-none = stays 0 (rw (add-zero (getD (coordsOf d n) mu 0)) (mod-eq-of-lt small))
-
-  -- once around
-  pub moved-around : movedOf d n mu (getD d mu 0) ≡ n
-  moved-around = stays (getD d mu 0) (add-mod-right (getD (coordsOf d n) mu 0) (getD d mu 0) ∙ mod-eq-of-lt small)
+-- once around
+pub moved-around : (d : List ℕ) (n mu : ℕ) → n < volume d → mu < length d → movedOf d n mu (getD d mu 0) ≡ n
+unfolding movedOf
+moved-around d n mu below axis =
+    let c = getD (coordsOf d n) mu 0 in
+    let e = getD d mu 0 in
+    let s : (c + e) % e ≡ c = add-mod-right c e ∙ mod-eq-of-lt (coord-below d (omega arith) n mu axis) in
+    rw (s, set-getD (coordsOf d n) mu 0) (index-coords d n below)

@@ -1,5 +1,5 @@
--- What is proved of extents, sites, neighbours and parities. All but the first and, of the last, count and nth hold for any extents and any axis.
-use Prim.Native.Nat.{ℕ, _+_, _%_, _<_}
+-- What is proved of extents, sites, neighbours and parities. All but the first two and, of the last, count and nth hold for any extents and any axis.
+use Prim.Native.Nat.{ℕ, _+_, _%_, _<_, _≤_}
 use mathlib.Core.Bool.{true}
 use mathlib.Core.List.{List, List·Mem, List·Nodup}
 use mathlib.Core.Path.{_≡_}
@@ -13,6 +13,10 @@ use Rattle.geometry.specs.Order.{sitesOf, halfOf, nthOf}
 pub record FitsIsShape : Type 0 where
   pub passes : (d : List ℕ) → Shape d → fitsOf d ≡ true
   pub passed : (d : List ℕ) → length d ≡ 4 → fitsOf d ≡ true → Shape d
+
+-- a field has at most 16 · 16 · 16 · 16 sites
+abbrev pub SitesAreBounded : Type 0
+SitesAreBounded = (d : List ℕ) → Shape d → volume d ≤ 65536
 
 -- a site's number and its coordinates give back each other
 pub record CoordsInverse : Type 0 where

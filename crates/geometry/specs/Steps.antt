@@ -27,7 +27,7 @@ neighboursOf d n = record { up = map (fwdOf d n) (range 4); down = map (bwdOf d 
 unfoldable pub spotOf : List ℕ → ℕ → Spot
 spotOf d n = record { site = n; at = coordsOf d n }
 
--- the sum of coordinates
+-- the sum of a list of numbers
 unfoldable pub total : List ℕ → ℕ
 total [] = 0
 total (c ∷ cs) = c + total cs

@@ -14,7 +14,11 @@ use Rattle.field_checks.specs.Rows.{linkCheckRows}
 abbrev pub checkRow : List ℕ → List Float → List ℕ → ℕ
 checkRow d l found = firstRow (linkCheckRows d (length l) (length found))
 
-pub record CheckCall (d : List ℕ) (l : List Float) (old : List ℕ) (r : Count) (new : List ℕ) : Type 0 where
-  pub answer : IsCount (checkRow d l old) (length (unsoundLinks d (linkOf d l))) r
+-- what the list holds afterwards; refused, it is as it was
+pub record CheckList (d : List ℕ) (l : List Float) (old new : List ℕ) : Type 0 where
   pub listed : checkRow d l old ≡ 0 → Listed (unsoundLinks d (linkOf d l)) old (length (unsoundLinks d (linkOf d l))) new
   pub kept : (checkRow d l old ≡ 0 → ⊥) → new ≡ old
+
+pub record CheckCall (d : List ℕ) (l : List Float) (old : List ℕ) (r : Count) (new : List ℕ) : Type 0 where
+  pub answer : IsCount (checkRow d l old) (length (unsoundLinks d (linkOf d l))) r
+  pub list : CheckList d l old new

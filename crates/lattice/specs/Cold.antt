@@ -1,27 +1,26 @@
 -- The cold start: every link is the identity.
-use Prim.Native.Nat.{ℕ, zero, suc, _*_, _<_}
-use mathlib.Core.List.{List, [], _∷_, _++_}
+use Prim.Native.Nat.{ℕ, _*_, _<_}
+use mathlib.Core.List.{List, [], _∷_}
 use mathlib.Core.Path.{_≡_}
 use lib.Ieee.{Float}
 use lib.ListN.{length}
 use Rattle.rows.specs.Rows.{firstRow, ifAccepted}
 use Rattle.complex.specs.Rounded.{fzero}
 use Rattle.mat.specs.Matrix.{identityOf}
-use Rattle.links.specs.Store.{numbersOf}
+use Rattle.links.specs.Store.{matrixAt}
 use Rattle.geometry.specs.Radix.{volume}
-use Rattle.gauge.specs.Field.{linkOf}
+use Rattle.gauge.specs.Field.{linkOf, listOf}
 use Rattle.lattice.specs.declared.Plan.{Plan}
 use Rattle.lattice.specs.declared.ColdAnswer.{ColdAnswer}
 use Rattle.field_checks.specs.Rows.{planRows}
 
--- the numbers of the identity, k times
-unfoldable pub identities : ℕ → List Float
-identities zero = []
-identities (suc k) = identities k ++ numbersOf identityOf
-
--- the links of a cold field
+-- the list of a cold field
 unfoldable pub coldLinks : List ℕ → List Float
-coldLinks d = identities (4 * volume d)
+coldLinks d = listOf d (λ mu n. identityOf)
+
+-- the first k matrices of a list are the identity
+abbrev pub Identities : List Float → ℕ → Type 0
+Identities l k = (j : ℕ) → j < k → matrixAt l (18 * j) ≡ identityOf
 
 abbrev pub noPlan : Plan
 noPlan = record { extents = 0 ∷ 0 ∷ 0 ∷ 0 ∷ []; coupling = fzero; seed = 0; pass = 0 }

@@ -5,12 +5,12 @@ use mat::Su3;
 ghost use mathlib.Core.Path.{_≡_};
 ghost use Prim.Native.Nat.{_*_};
 ghost use lib.ListN.{length};
-ghost use Rattle.lattice.specs.Cold.{identities, ColdCall};
+ghost use Rattle.lattice.specs.Cold.{Identities, ColdCall};
 
 // Sets every one of the list's links to the identity.
 fn set_identities(links: &mut [f64], count: usize)
     requires { ⌜ length (now links) ≡ 18 * count ⌝ }
-    ensures { λ _. ⌜ now (links .exit) ≡ identities count ⌝ }
+    ensures { λ _. ⌜ Identities (now (links .exit)) count ⌝ }
 {
     for k in 0..count {
         links::store(links, 18 * k, Su3::IDENTITY);

@@ -11,15 +11,12 @@ use lib.Ieee.{Float, nan}
 use Rattle.folds.specs.Folds.{iterTo}
 use Rattle.complex.specs.declared.C64.{C64}
 use Rattle.mat.specs.declared.Su3.{Su3}
-use Rattle.complex.specs.Complex.{cnan}
+use Rattle.complex.specs.Complex.{complexOf, cnan}
 use Rattle.mat.specs.Matrix.{ent}
 use Rattle.links.specs.Store.{cellAt, putCell, matrixAt, withMatrix}
 use Rattle.links.specs.Field.{linkNumber, placeOf, Sized}
 
 -- ## One pair
-
-cell : Float → Float → C64
-cell a b = record { re = a; im = b }
 
 -- two pairs with no place in common
 pub record Apart (a b : ℕ) : Type 0 where
@@ -33,16 +30,16 @@ module _ (l : List Float) (p : ℕ) (c : C64) where
   length-putCell = simp length-set
 
   cell-same : p + 1 < length l → cellAt (putCell l p c) p ≡ c
-  unfolding cellAt putCell cell
+  unfolding cellAt putCell
   cell-same h =
-      ap₂ cell
+      ap₂ complexOf
       (getD-set-other (set l p (c .re)) (p + 1) p (c .im) nan (omega arith) ∙ getD-set-same l p (c .re) nan (omega arith))
       (getD-set-same (set l p (c .re)) (p + 1) (c .im) nan (simp length-set h))
 
   cell-other : (q : ℕ) → Apart q p → cellAt (putCell l p c) q ≡ cellAt l q
-  unfolding cellAt putCell cell
+  unfolding cellAt putCell
   cell-other q a =
-      ap₂ cell
+      ap₂ complexOf
       (getD-set-other (set l p (c .re)) (p + 1) q (c .im) nan (a .left) ∙ getD-set-other l p q (c .re) nan (a .same))
       (getD-set-other (set l p (c .re)) (p + 1) (q + 1) (c .im) nan (λ e. a .same (omega arith)) ∙ getD-set-other l p (q + 1) (c .re) nan (a .right))
 

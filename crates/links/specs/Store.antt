@@ -1,6 +1,6 @@
 -- A matrix in a list of numbers: nine complex numbers, row by row, each a pair, real first.
 use Prim.Native.Nat.{ℕ, _+_, _*_, _≤_}
-use mathlib.Core.List.{List, [], _∷_}
+use mathlib.Core.List.{List}
 use lib.ListN.{length, getD, set}
 use lib.Ieee.{Float, nan}
 use Rattle.folds.specs.Folds.{iterTo}
@@ -28,11 +28,3 @@ withMatrix l p u = iterTo (λ k m. putCell m (p + 2 * k) (ent u k)) l 9
 pub record TwoMatrices (l : List Float) (a b : ℕ) : Type 0 where
   pub first : a + 18 ≤ length l
   pub second : b + 18 ≤ length l
-
--- the numbers of complex numbers, and of a matrix, as a list has them
-unfoldable pub pairsOf : List C64 → List Float
-pairsOf [] = []
-pairsOf (c ∷ cs) = c .re ∷ c .im ∷ pairsOf cs
-
-abbrev pub numbersOf : Su3 → List Float
-numbersOf u = pairsOf (u .m)

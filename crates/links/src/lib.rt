@@ -20,7 +20,7 @@ pub fn cell(links: &[f64], p: usize) -> C64
 }
 
 // Stores a complex number at a place.
-pub fn put(links: &mut [f64], p: usize, c: C64)
+fn put(links: &mut [f64], p: usize, c: C64)
     requires { ⌜ p + 1 < length (now links) ⌝ }
     ensures { λ _. ⌜ now (links .exit) ≡ putCell (now (links .entry)) p c ⌝ }
 {
@@ -29,7 +29,7 @@ pub fn put(links: &mut [f64], p: usize, c: C64)
 }
 
 // The matrix at a place.
-pub fn load(links: &[f64], p: usize) -> Su3
+fn load(links: &[f64], p: usize) -> Su3
     requires { ⌜ p + 18 ≤ length (now links) ⌝ }
     ensures { λ r. ⌜ r ≡ matrixAt (now (links .entry)) p ⌝ }
 {

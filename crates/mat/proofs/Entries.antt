@@ -1,9 +1,10 @@
 -- The entries of a matrix that is given as a table, and the rows of one that has nine.
-use Prim.Native.Nat.{ℕ, zero, suc, _<_}
+use Prim.Native.Nat.{ℕ, _<_}
 use mathlib.Core.List.{List, [], _∷_}
 use mathlib.Core.Path.{_≡_, refl}
 use native.Mathlib.Omega.{arith}
 use lib.ListN.{length}
+use Rattle.folds.proofs.Few.{below-three}
 use Rattle.complex.specs.declared.C64.{C64}
 use Rattle.mat.specs.declared.Su3.{Su3}
 use Rattle.complex.specs.Complex.{conjOf}
@@ -12,19 +13,10 @@ use Rattle.mat.specs.Product.{rowCol, mulOf}
 use Rattle.mat.specs.Unitary.{rowOf, ofRows}
 
 pub table-at : (f : ℕ → ℕ → C64) (i j : ℕ) → i < 3 → j < 3 → f i j ≡ at (tabulate f) i j
-table-at f zero zero h g = refl
-table-at f zero (suc zero) h g = refl
-table-at f zero (suc (suc zero)) h g = refl
-table-at f zero (suc (suc (suc j))) h g = absurd (omega arith)
-table-at f (suc zero) zero h g = refl
-table-at f (suc zero) (suc zero) h g = refl
-table-at f (suc zero) (suc (suc zero)) h g = refl
-table-at f (suc zero) (suc (suc (suc j))) h g = absurd (omega arith)
-table-at f (suc (suc zero)) zero h g = refl
-table-at f (suc (suc zero)) (suc zero) h g = refl
-table-at f (suc (suc zero)) (suc (suc zero)) h g = refl
-table-at f (suc (suc zero)) (suc (suc (suc j))) h g = absurd (omega arith)
-table-at f (suc (suc (suc i))) j h g = absurd (omega arith)
+table-at f i j h g = below-three (λ i. f i j ≡ at (tabulate f) i j) (row 0 refl refl refl) (row 1 refl refl refl) (row 2 refl refl refl) i h
+  where
+    row : (i : ℕ) → f i 0 ≡ at (tabulate f) i 0 → f i 1 ≡ at (tabulate f) i 1 → f i 2 ≡ at (tabulate f) i 2 → f i j ≡ at (tabulate f) i j
+    row i x y z = below-three (λ j. f i j ≡ at (tabulate f) i j) x y z j g
 
 pub dagger-at : (a : Su3) (i j : ℕ) → i < 3 → j < 3 → conjOf (at a j i) ≡ at (daggerOf a) i j
 unfolding daggerOf

@@ -1,5 +1,5 @@
 -- The half-sweep of a cold field in frames: what is visited, and that no link is stuck.
-use Prim.Native.Nat.{ℕ, _+_, _*_, _/_, _<_, min}
+use Prim.Native.Nat.{ℕ, _*_, _/_, _<_, min}
 use mathlib.Core.Bool.{true, false, Bool-discrete, true≢false}
 use mathlib.Core.List.{List, [], _∷_, map, List·Mem, mem-cons-self, mem-append-left, mem-filter}
 use mathlib.Core.Path.{_≡_, refl, ap, subst, sym, _∙_}
@@ -30,7 +30,7 @@ use Rattle.sweep.specs.RunOfFrames.{onField, RunState, acceptedSum, Answered, o
 use Rattle.sweep.proofs.RunOfFrames.{frames-are-visits}
 use Rattle.lattice.specs.Cold.{coldLinks}
 use Rattle.lattice.proofs.ColdLinks.{every-link-is-identity}
-use Rattle.geometry.specs.Steps.{fwdOf, bwdOf}
+use Rattle.geometry.specs.Steps.{fwdOf, bwdOf, total}
 use Rattle.sweep.specs.Jobs.{openCall, newJob, counted}
 use Rattle.sweep.specs.RunOfFrames.{OthersMisfit, Opening, firstSites}
 use Rattle.measurements.specs.Measurements.{Small, coldPlan, coldField, jobAfter, framesOf}
@@ -55,10 +55,6 @@ unfolding stuckAmong
 none-stuck update U sites h = none-in (stuckSites update U sites) (λ n m. let both = mem-filter (λ k. Bool-discrete (isStuck (update U k .stuck)) true) .0 m in true≢false (sym (both .1) ∙ h n (both .0)))
 
 -- ## sizes add up
-
-total : List ℕ → ℕ
-total [] = 0
-total (k ∷ ks) = k + total ks
 
 accepted-all : (b : RunState) (sizes : List ℕ) → Answered b (map onField sizes) → acceptedSum b (map onField sizes) ≡ total sizes
 unfolding acceptedSum Answered total ifAccepted

@@ -54,22 +54,10 @@ impl Quat {
         ensures { λ r. ⌜ r ≡ toMat self ⌝ }
     {
         Mat2 {
-            m00: C64 {
-                re: self.a0,
-                im: self.a3,
-            },
-            m01: C64 {
-                re: self.a2,
-                im: self.a1,
-            },
-            m10: C64 {
-                re: -self.a2,
-                im: self.a1,
-            },
-            m11: C64 {
-                re: self.a0,
-                im: -self.a3,
-            },
+            m00: C64::new(self.a0, self.a3),
+            m01: C64::new(self.a2, self.a1),
+            m10: C64::new(-self.a2, self.a1),
+            m11: C64::new(self.a0, -self.a3),
         }
     }
 }

@@ -1,6 +1,6 @@
 -- `uniformOf` rounds nothing, and the code's product is it. Assumes nothing.
 use mathlib.Core.Path.{_≡_, refl, sym, ap, _∙_, subst}
-use Prim.Native.Nat.{ℕ, _*_, _/_, _%_, _^_, _<_, _≤_}
+use Prim.Native.Nat.{ℕ, _*_, _/_, _%_, _^_, _<_}
 use native.Mathlib.Nat.{mul-assoc, mul-comm, mul-one, one-mul, mul-pos, mul-lt-mul-of-pos-right, lt-of-mul-lt-mul-right, lt-of-lt-of-le}
 use native.Mathlib.Omega.{arith}
 use mathlib.Core.Bool.{true, false, true≢false}

@@ -15,7 +15,7 @@ use lib.Ieee.Fits.{kept-lt, down-pos, up-pos, and-l, and-r}
 use lib.Ieee.Bits.{ofBits-toBits, nanBits-above}
 use Rattle.root.specs.Sqrt.{sqrtUnits, sqrtOf}
 use Rattle.root.specs.Parts.{unitsBits}
-use Rattle.root.proofs.Patterns.{infinity, sqrt-of-bits}
+use Rattle.root.proofs.Patterns.{infinity, below-sign, sqrt-of-bits}
 
 -- ---- the code's constants
 
@@ -171,10 +171,7 @@ root-of-bits x r t b h =
 
 pub no-nan-bits : (r : ℕ) → r < infinity → T (not (nanBits binary64 r))
 no-nan-bits r h =
-    subst (λ (b : Bool). T (not b)) (sym (nanBits-above binary64 r ∙ ap (λ (z : ℕ). ltb infinity z) (mod-eq-of-lt (small r h)) ∙ le-ltb infinity r (omega arith))) tt
-  where
-    small : (r : ℕ) → r < infinity → r < 2 ^ 63
-    small r h = omega arith
+    subst (λ (b : Bool). T (not b)) (sym (nanBits-above binary64 r ∙ ap (λ (z : ℕ). ltb infinity z) (mod-eq-of-lt (below-sign r h)) ∙ le-ltb infinity r (omega arith))) tt
 
 -- a value above zero is no NaN
 above-nan : (x : Float) → lt (fin false 0 (pos 0)) x ≡ true → T (not (isNan x))

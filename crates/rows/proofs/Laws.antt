@@ -165,9 +165,6 @@ module _ {r row : ℕ} (same : r ≡ row) where
       go zero e ne = absurd (ne refl)
       go (suc k) e ne = rw (← e) (unfold numberOf in refl)
 
-  pub number-accepted : {x y : Float} → r ≡ 0 → y ≡ x → IsNumber row x (Number.Value y)
-  number-accepted {x} {y} e h = is-number row x (rw (← same, e, h) (unfold numberOf in refl))
-
 -- ## which case it is
 
 isValue : Count → Bool

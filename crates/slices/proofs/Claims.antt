@@ -2,7 +2,7 @@
 use Prim.Native.Nat.{ℕ, zero, suc, _+_, _*_, _/_, _%_, _<_}
 use mathlib.Core.List.{List, [], _∷_, map}
 use mathlib.Core.Path.{_≡_, ap, sym, _∙_}
-use native.Mathlib.Nat.{mul-comm, add-zero, mod-lt, mod-eq-of-lt, div-eq-of-lt, div-lt-iff-lt-mul, mul-le-mul-right, mul-add-div-right, mul-add-mod-self-right, mod-add-div}
+use native.Mathlib.Nat.{add-zero, mod-lt, mod-eq-of-lt, div-eq-of-lt, mul-le-mul-right, mul-add-div-right, mul-add-mod-self-right, mod-add-div}
 use native.Mathlib.Omega.{arith}
 use lib.Ieee.{Float, nan, binary64, add}
 use lib.ListN.{length, getD}
@@ -13,11 +13,12 @@ use Rattle.geometry.specs.Shape.{Shape}
 use Rattle.geometry.proofs.Range.{length-listed, listed-at}
 use Rattle.geometry.proofs.Radix.{left-pos, coords-within, index-below, coords-index}
 use Rattle.geometry.proofs.Shape.{axis-in}
-use Rattle.gauge.specs.Polyakov.{space}
-use Rattle.slices.specs.Slices.{places, siteAt, shifted, densityAt, productAt, sliceSum, cellSum, gridAfter, gridOf}
+use Rattle.geometry.proofs.Bounds.{quotient-below}
+use Rattle.gauge.specs.Polyakov.{space, siteAt}
+use Rattle.gauge.proofs.TimeLine.{site-at, site-below}
+use Rattle.slices.specs.Slices.{places, shifted, densityAt, productAt, sliceSum, cellSum, gridAfter, gridOf}
 use Rattle.slices.specs.Claims.{SitesBySlices, OffsetsWrap, GridIsSumOfSlices, DensitiesApart}
 use Rattle.folds.proofs.Folds.{fold-same}
-use Rattle.slices.proofs.Places.{site-at, site-below}
 
 -- ## sites
 
@@ -41,7 +42,7 @@ unfolding volume
 every-site [] p n h = absurd (omega arith)
 every-site (e ∷ d) p n h =
     let pos : 0 < e = left-pos e (volume d) (omega arith) in
-    let inside : n / e < volume d = div-lt-iff-lt-mul pos .1 (rw mul-comm at h) in
+    let inside : n / e < volume d = quotient-below pos h in
     site-at (e ∷ d) p (n % e) (n / e) inside ∙ mod-add-div n e
 
 pub sites-by-slices : SitesBySlices

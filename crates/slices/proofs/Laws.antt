@@ -13,8 +13,8 @@ use Rattle.folds.proofs.Laws.{fill-at, fold-none, fold-next}
 use Rattle.complex.specs.Rounded.{_⊞_, fzero}
 use Rattle.geometry.specs.Radix.{coordsOf}
 use Rattle.geometry.proofs.Range.{listed-at, drop-fill}
-use Rattle.gauge.specs.Polyakov.{space}
-use Rattle.slices.specs.Slices.{places, siteAt, midTime, number, numbersFrom, densityAt, withSlice, cellSum, loopSum, gridAfter, gridOf, loopsAfter, loopsOf}
+use Rattle.gauge.specs.Polyakov.{space, siteAt}
+use Rattle.slices.specs.Slices.{places, midTime, number, numbersFrom, densityAt, withSlice, cellSum, loopSum, gridAfter, gridOf, loopsAfter, loopsOf}
 use Rattle.slices.proofs.Filled.{listed-same, listed-is}
 use Rattle.folds.proofs.Folds.{fold-same}
 use Rattle.slices.proofs.SliceAdded.{slice-sum-same, slice-behind}

@@ -1,4 +1,4 @@
--- `Laws` are for a caller that goes over the slices, `Places` has the sites of a slice by number, `Claims` proves what specs/Claims.antt names. The others serve the functions' proofs.
+-- `Laws` are for a caller that goes over the slices, `Places` has places of space by their coordinates, `Claims` proves what specs/Claims.antt names. The others serve the functions' proofs.
 pub mod Laws
 pub mod Places
 pub mod Claims

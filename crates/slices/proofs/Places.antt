@@ -1,19 +1,22 @@
--- Places of space by their three coordinates, and the sites of a slice.
-use Prim.Native.Nat.{ℕ, zero, suc, _+_, _*_, _%_, _<_, _≤_}
+-- Places of space by their three coordinates.
+use Prim.Native.Nat.{ℕ, _+_, _*_, _%_, _<_, _≤_}
 use mathlib.Core.List.{List, [], _∷_}
 use mathlib.Core.Path.{_≡_, refl, ap}
 use native.Mathlib.Nat.{mul-zero, add-zero, mul-le-mul-left}
 use native.Mathlib.Omega.{arith}
-use lib.ListN.{length, getD, drop}
+use lib.ListN.{getD, drop}
+use Rattle.folds.proofs.Few.{below-three}
 use Rattle.geometry.specs.Range.{range}
-use Rattle.geometry.specs.Radix.{volume, indexOf, Within}
+use Rattle.geometry.specs.Radix.{indexOf, Within}
 use Rattle.geometry.specs.Shape.{Shape}
-use Rattle.geometry.proofs.Radix.{coords-index, index-coords}
+use Rattle.geometry.proofs.Radix.{coords-index}
 use Rattle.geometry.proofs.Shape.{four-are}
 use Rattle.geometry.proofs.Bounds.{product}
 use Rattle.gauge.specs.Polyakov.{space}
-use Rattle.gauge.proofs.TimeLine.{line-below, places-small}
-use Rattle.slices.specs.Slices.{places, siteAt, shifted}
+use Rattle.gauge.proofs.TimeLine.{places-small}
+use Rattle.slices.specs.Slices.{shifted}
+-- the number of a site, for those who sum over slices
+pub use Rattle.gauge.proofs.TimeLine.{site-at}
 
 pub space-are : (d : List ℕ) → Shape d → space d ≡ getD d 1 0 ∷ getD d 2 0 ∷ getD d 3 0 ∷ []
 space-are d s = ap (λ (l : List ℕ). drop 1 l) (four-are d (s .four))
@@ -25,13 +28,7 @@ module _ (nx ny nz : ℕ) where
   three = nx ∷ ny ∷ nz ∷ []
 
   pub within-three : (x y z : ℕ) → x < nx → y < ny → z < nz → Within three (x ∷ y ∷ z ∷ [])
-  within-three x y z a b c = record { len = refl; each = go }
-    where
-      go : (mu : ℕ) → mu < 3 → getD (x ∷ y ∷ z ∷ []) mu 0 < getD three mu 0
-      go zero h = a
-      go (suc zero) h = b
-      go (suc (suc zero)) h = c
-      go (suc (suc (suc mu))) h = absurd (omega arith)
+  within-three x y z a b c = record { len = refl; each = below-three (λ mu. getD (x ∷ y ∷ z ∷ []) mu 0 < getD three mu 0) a b c }
 
   pub three-below : (x y z : ℕ) → x < nx → y < ny → z < nz → x + nx * (y + ny * z) < nx * (ny * nz)
   three-below x y z a b c = below a (below b c)
@@ -49,16 +46,6 @@ module _ (nx ny nz : ℕ) where
   shifted-three c x y z a b e =
       rw (← (index-three x y z), coords-index three (x ∷ y ∷ z ∷ []) (within-three x y z a b e))
       (index-three ((x + getD c 0 0) % nx) ((y + getD c 1 0) % ny) ((z + getD c 2 0) % nz))
-
--- ## the sites of a slice
-
-pub site-at : (d : List ℕ) → 0 < length d → (t k : ℕ) → k < places d → siteAt d t k ≡ t + getD d 0 0 * k
-unfolding siteAt indexOf
-site-at [] p t k h = absurd (omega arith)
-site-at (e ∷ d) p t k h = rw (index-coords d k h)
-
-pub site-below : (d : List ℕ) → 0 < length d → (t k : ℕ) → t < getD d 0 0 → k < places d → siteAt d t k < volume d
-site-below d p t k h g = rw (site-at d p t k g) (omega (arith, line-below d p k t g h))
 
 -- ## bounds of a row's numbers
 

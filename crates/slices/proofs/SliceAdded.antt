@@ -2,7 +2,7 @@
 use Prim.Native.Nat.{ℕ, _+_, _*_, _/_, _%_, _<_, _≤_}
 use mathlib.Core.List.{List, [], _∷_, map}
 use mathlib.Core.Path.{_≡_, ap, ap₂, sym, _∙_}
-use native.Mathlib.Nat.{mul-one, mul-comm, mul-le-mul, mul-le-mul-right, mod-lt, mod-eq-of-lt, div-lt-iff-lt-mul, one-mul}
+use native.Mathlib.Nat.{mul-one, mul-le-mul, mul-le-mul-right, mod-lt, mod-eq-of-lt, div-lt-iff-lt-mul, one-mul}
 use native.Mathlib.Omega.{arith}
 use lib.Ieee.{Float, nan, binary64, add}
 use lib.ListN.{length, getD, take, drop, set, length-drop}
@@ -13,7 +13,7 @@ use Rattle.geometry.specs.Radix.{volume, coordsOf}
 use Rattle.geometry.specs.Shape.{Shape}
 use Rattle.geometry.proofs.Radix.{coords-within}
 use Rattle.geometry.proofs.Shape.{four-are}
-use Rattle.geometry.proofs.Bounds.{shape-low, product}
+use Rattle.geometry.proofs.Bounds.{shape-low, product, quotient-below}
 use Rattle.gauge.specs.Polyakov.{space}
 use Rattle.gauge.proofs.TimeLine.{places-are, places-small}
 use Rattle.slices.specs.Slices.{places, number, numbersFrom, densityAt, productAt, sliceSum, withSlice}
@@ -59,12 +59,9 @@ pub coords-by : (d : List ℕ) → Shape d → (r : ℕ) → r < placesBy d → 
 unfolding coordsOf
 coords-by d s r h =
     let low = shape-low d s in
-    let a : r / getD d 1 0 < getD d 2 0 * getD d 3 0 = left (omega (arith, low .x)) h in
-    let b : r / getD d 1 0 / getD d 2 0 < getD d 3 0 = left (omega (arith, low .y)) a in
+    let a : r / getD d 1 0 < getD d 2 0 * getD d 3 0 = quotient-below (omega (arith, low .x)) h in
+    let b : r / getD d 1 0 / getD d 2 0 < getD d 3 0 = quotient-below (omega (arith, low .y)) a in
     rw (space-are d s, mod-eq-of-lt b)
-  where
-    left : {e v n : ℕ} → 0 < e → n < e * v → n / e < v
-    left p i = div-lt-iff-lt-mul p .1 (rw mul-comm at i)
 
 -- ## the sum of a slice depends on its loop values alone
 

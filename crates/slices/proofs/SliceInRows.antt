@@ -11,11 +11,12 @@ use Rattle.complex.specs.Rounded.{_⊠_, fzero}
 use Rattle.geometry.specs.Radix.{Within}
 use Rattle.geometry.specs.Shape.{Shape}
 use Rattle.geometry.proofs.Shape.{axis-in}
-use Rattle.gauge.proofs.TimeLine.{places-are, line-below}
-use Rattle.slices.specs.Slices.{places, siteAt, shifted, number, numbersFrom, productAt}
+use Rattle.gauge.specs.Polyakov.{siteAt}
+use Rattle.gauge.proofs.TimeLine.{places-are, line-below, site-at}
+use Rattle.slices.specs.Slices.{places, shifted, number, numbersFrom, productAt}
 use Rattle.slices.specs.Parts.{wrappedSum, rowSum, planeSum, CellRow, Cell}
 use Rattle.folds.proofs.Folds.{fold-same, fold-iter, iter-same, iter-nested}
-use Rattle.slices.proofs.Places.{three, space-are, shifted-three, site-at, three-below, RowSmall, row-small}
+use Rattle.slices.proofs.Places.{three, space-are, shifted-three, three-below, RowSmall, row-small}
 
 -- ## planes, then rows, are all places
 

@@ -8,8 +8,8 @@ use Rattle.folds.specs.Folds.{foldTo}
 use Rattle.geometry.specs.Range.{range}
 use Rattle.geometry.specs.Radix.{volume, coordsOf}
 use Rattle.geometry.specs.Shape.{Shape}
-use Rattle.gauge.specs.Polyakov.{space}
-use Rattle.slices.specs.Slices.{places, siteAt, shifted, densityAt, cellSum, gridOf}
+use Rattle.gauge.specs.Polyakov.{space, siteAt}
+use Rattle.slices.specs.Slices.{places, shifted, densityAt, cellSum, gridOf}
 
 -- a time and a place of space make a site, and each site is made once
 pub record SitesBySlices : Type 0 where

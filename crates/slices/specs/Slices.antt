@@ -2,7 +2,7 @@
 -- the density at that offset, at the loop's middle time. Every slice of equal time is summed from +0; the slices' sums are added in the order of time.
 use Prim.Native.Nat.{ℕ, _+_, _*_, _/_, _%_}
 use mathlib.Core.Bool.{cond}
-use mathlib.Core.List.{List, _∷_, _++_, map}
+use mathlib.Core.List.{List, _++_, map}
 use lib.Dec.{ltb}
 use lib.Ieee.{Float, nan, binary64, add}
 use lib.ListN.{length, getD, take}
@@ -10,17 +10,13 @@ use Rattle.folds.specs.Folds.{foldTo}
 use Rattle.complex.specs.Rounded.{_⊞_, _⊠_, fzero}
 use Rattle.geometry.specs.Range.{range}
 use Rattle.geometry.specs.Radix.{volume, coordsOf, indexOf}
-use Rattle.gauge.specs.Polyakov.{space}
+use Rattle.gauge.specs.Polyakov.{space, siteAt}
 
 -- ## Places
 
 -- the number of places of space
 abbrev pub places : List ℕ → ℕ
 places d = volume (space d)
-
--- the site at time t and the k-th place of space, x fastest
-unfoldable pub siteAt : List ℕ → ℕ → ℕ → ℕ
-siteAt d t k = indexOf d (t ∷ coordsOf (space d) k)
 
 -- the place whose coordinates are those of the k-th plus c, each modulo its extent e
 unfoldable pub shifted : List ℕ → List ℕ → ℕ → ℕ

@@ -1,6 +1,6 @@
 -- The staircase arrives: along each axis the place is between the origin and the offset, and each step brings it one nearer.
 use Prim.Native.Nat.{ℕ, zero, suc, _+_, _-_, _<_, _≤_}
-use mathlib.Core.Bool.{true, false, cond, _||_, true≢false}
+use mathlib.Core.Bool.{true, cond, _||_, true≢false}
 use mathlib.Core.List.{List, [], _∷_, _++_, map}
 use mathlib.Core.Path.{_≡_, refl, ap, sym, _∙_}
 use native.Mathlib.Decide.{ℕ-discrete, decLt}
@@ -12,6 +12,7 @@ use lib.ListN.{length, set}
 use lib.Seq.{ext-getD, getD-set-same, getD-set-other}
 use borrow.Author.Tests.{lt-ltb, le-ltb}
 use lib.Signed.{ltZ}
+use Rattle.folds.proofs.Few.{below-three}
 use Rattle.geometry.specs.Range.{range}
 use Rattle.geometry.proofs.Range.{length-listed, listed-next}
 use Rattle.stairs.specs.declared.Step.{Step}
@@ -86,19 +87,16 @@ step-nearer (negsuc k) (negsuc m) b h = let l = less-back k m b h in record { be
 
 -- ## along all three
 
-total : List ℤ → ℕ
-total p = natAbs (alongOf p 0) + natAbs (alongOf p 1) + natAbs (alongOf p 2)
-
 -- another number along one axis
-total-set : (p : List ℤ) (a : ℕ) (z : ℤ) → length p ≡ 3 → a < 3 → natAbs z ≡ natAbs (alongOf p a) + 1 → total (set p a z) ≡ total p + 1
-unfolding total
-total-set p zero z n l e =
+steps-set : (p : List ℤ) (a : ℕ) (z : ℤ) → length p ≡ 3 → a < 3 → natAbs z ≡ natAbs (alongOf p a) + 1 → stepsTo (set p a z) ≡ stepsTo p + 1
+unfolding stepsTo
+steps-set p zero z n l e =
     rw (getD-set-same p 0 z (pos 0) (omega arith), getD-set-other p 0 1 z (pos 0) (omega arith), getD-set-other p 0 2 z (pos 0) (omega arith)) (omega arith)
-total-set p (suc zero) z n l e =
+steps-set p (suc zero) z n l e =
     rw (getD-set-other p 1 0 z (pos 0) (omega arith), getD-set-same p 1 z (pos 0) (omega arith), getD-set-other p 1 2 z (pos 0) (omega arith)) (omega arith)
-total-set p (suc (suc zero)) z n l e =
+steps-set p (suc (suc zero)) z n l e =
     rw (getD-set-other p 2 0 z (pos 0) (omega arith), getD-set-other p 2 1 z (pos 0) (omega arith), getD-set-same p 2 z (pos 0) (omega arith)) (omega arith)
-total-set p (suc (suc (suc a))) z n l e = absurd (omega arith)
+steps-set p (suc (suc (suc a))) z n l e = absurd (omega arith)
 
 at-origin : (z : ℤ) → Between (pos 0) z
 unfolding Between
@@ -106,18 +104,15 @@ at-origin (pos m) = omega arith
 at-origin (negsuc m) = tt
 
 origin-at : (a : ℕ) → a < 3 → alongOf (pos 0 ∷ pos 0 ∷ pos 0 ∷ []) a ≡ pos 0
-origin-at zero l = refl
-origin-at (suc zero) l = refl
-origin-at (suc (suc zero)) l = refl
-origin-at (suc (suc (suc a))) l = absurd (omega arith)
+origin-at = below-three (λ a. alongOf (pos 0 ∷ pos 0 ∷ pos 0 ∷ []) a ≡ pos 0) refl refl refl
 
 record OnTheWay (d : List ℤ) (i : ℕ) : Type 0 where
   between : (a : ℕ) → a < 3 → Between (alongOf (placeAt d i) a) (alongOf d a)
-  steps : total (placeAt d i) ≡ i
+  steps : stepsTo (placeAt d i) ≡ i
 
 -- some axis has something left
-some-left : (d p : List ℤ) → ((a : ℕ) → a < 3 → Between (alongOf p a) (alongOf d a)) → total p < stepsTo d → differs (alongOf p (bestOf p d)) (alongOf d (bestOf p d)) ≡ true
-unfolding total stepsTo
+some-left : (d p : List ℤ) → ((a : ℕ) → a < 3 → Between (alongOf p a) (alongOf d a)) → stepsTo p < stepsTo d → differs (alongOf p (bestOf p d)) (alongOf d (bestOf p d)) ≡ true
+unfolding stepsTo
 some-left d p b l = go (decLt (natAbs (alongOf p 0)) (natAbs (alongOf d 0))) (decLt (natAbs (alongOf p 1)) (natAbs (alongOf d 1)))
   where
     at : (a : ℕ) → a < 3 → natAbs (alongOf p a) < natAbs (alongOf d a) → differs (alongOf p (bestOf p d)) (alongOf d (bestOf p d)) ≡ true
@@ -131,12 +126,12 @@ some-left d p b l = go (decLt (natAbs (alongOf p 0)) (natAbs (alongOf d 0))) (de
 module _ (d : List ℤ) where
   -- one step on from there
   next : (i : ℕ) → OnTheWay d i → (b : ℕ) → b < 3 → differs (alongOf (placeAt d i) b) (alongOf d b) ≡ true
-      → ((a : ℕ) → a < 3 → Between (alongOf (steppedTo (placeAt d i) d b) a) (alongOf d a)) × (total (steppedTo (placeAt d i) d b) ≡ i + 1)
+      → ((a : ℕ) → a < 3 → Between (alongOf (steppedTo (placeAt d i) d b) a) (alongOf d a)) × (stepsTo (steppedTo (placeAt d i) d b) ≡ i + 1)
   unfolding steppedTo
   next i h b m left =
       let n = step-nearer (alongOf (placeAt d i) b) (alongOf d b) (h .between b m) left in
       let len = long-place d i in
-      let t = total-set (placeAt d i) b (alongOf (placeAt d i) b +ℤ signum (alongOf d b)) len m (n .further) in
+      let t = steps-set (placeAt d i) b (alongOf (placeAt d i) b +ℤ signum (alongOf d b)) len m (n .further) in
       (λ a k. go a k (n .between) (ℕ-discrete a b), t ∙ ap (λ (j : ℕ). j + 1) (h .steps))
     where
       go : (a : ℕ) → a < 3 → Between (alongOf (placeAt d i) b +ℤ signum (alongOf d b)) (alongOf d b) → Dec (a ≡ b)
@@ -147,7 +142,7 @@ module _ (d : List ℤ) where
       go a k n (no e) = rw (getD-set-other (placeAt d i) b a (alongOf (placeAt d i) b +ℤ signum (alongOf d b)) (pos 0) e) (h .between a k)
 
   on-the-way : (i : ℕ) → i ≤ stepsTo d → OnTheWay d i
-  unfolding placeAt total
+  unfolding placeAt stepsTo
   on-the-way zero l = record { between = λ a m. rw (origin-at a m) (at-origin (alongOf d a)); steps = refl }
   on-the-way (suc i) l =
       let h = on-the-way i (omega arith) in
@@ -158,20 +153,13 @@ module _ (d : List ℤ) where
   left-along i l = let h = on-the-way i (omega arith) in some-left d (placeAt d i) (h .between) (rw (h .steps) l)
 
   -- three numbers that are at most three others, and have their sum
-  same : (p : List ℤ) → ((a : ℕ) → a < 3 → Between (alongOf p a) (alongOf d a)) → total p ≡ stepsTo d → (a : ℕ) → a < 3 → alongOf p a ≡ alongOf d a
-  unfolding total stepsTo
+  same : (p : List ℤ) → ((a : ℕ) → a < 3 → Between (alongOf p a) (alongOf d a)) → stepsTo p ≡ stepsTo d → (a : ℕ) → a < 3 → alongOf p a ≡ alongOf d a
+  unfolding stepsTo
   same p b e a l =
       let x = near-ends _ _ (b 0 (omega arith)) in
       let y = near-ends _ _ (b 1 (omega arith)) in
       let z = near-ends _ _ (b 2 (omega arith)) in
-      there (alongOf p a) (alongOf d a) (b a l) (go a l x y z)
-    where
-      go : (a : ℕ) → a < 3 → natAbs (alongOf p 0) ≤ natAbs (alongOf d 0) → natAbs (alongOf p 1) ≤ natAbs (alongOf d 1) → natAbs (alongOf p 2) ≤ natAbs (alongOf d 2)
-          → natAbs (alongOf p a) ≡ natAbs (alongOf d a)
-      go zero l x y z = omega (arith, e)
-      go (suc zero) l x y z = omega (arith, e)
-      go (suc (suc zero)) l x y z = omega (arith, e)
-      go (suc (suc (suc a))) l x y z = absurd (omega arith)
+      there (alongOf p a) (alongOf d a) (b a l) (below-three (λ a. natAbs (alongOf p a) ≡ natAbs (alongOf d a)) (omega (arith, e)) (omega (arith, e)) (omega (arith, e)) a l)
 
   at-last : length d ≡ 3 → placeAt d (stepsTo d) ≡ d
   at-last three =

@@ -1,11 +1,12 @@
 -- The best axis so far, axis by axis, is in the end the first of the nearest ones.
-use Prim.Native.Nat.{ℕ, zero, suc, _<_}
+use Prim.Native.Nat.{ℕ, _<_}
 use mathlib.Core.Bool.{Bool, true, false, cond, true≢false}
 use mathlib.Core.List.{List, [], _∷_, cons≢nil}
 use mathlib.Core.Path.{_≡_, refl, sym, _∙_}
 use native.Mathlib.Omega.{arith}
 use lib.IntN.{ℤ}
 use lib.Ieee.{Float, lt}
+use Rattle.folds.proofs.Few.{below-three}
 use Rattle.complex.specs.Rounded.{fzero}
 use Rattle.stairs.specs.declared.Nearest.{Nearest}
 use Rattle.stairs.specs.Line.{alongOf}
@@ -151,15 +152,12 @@ module _ (p d : List ℤ) where
   pub best-left : (a : ℕ) → a < 3 → Left a → Left (bestOf p d)
   unfolding bestOf All
   best-left a l h =
-      first-all (stepDist p d) Left (leftOf p d (0 ∷ 1 ∷ 2 ∷ [])) (λ e. absurd (true≢false (sym h ∙ at a l (none-left (0 ∷ 1 ∷ 2 ∷ []) e))))
+      first-all (stepDist p d) Left (leftOf p d (0 ∷ 1 ∷ 2 ∷ [])) (λ e. absurd (true≢false (sym h ∙ none-at (none-left (0 ∷ 1 ∷ 2 ∷ []) e))))
       (only-left (leftOf p d (0 ∷ 1 ∷ 2 ∷ [])) (left-all (λ a. a < 3) (0 ∷ 1 ∷ 2 ∷ []) three))
     where
       only-left : (axes : List ℕ) → All (λ a. (a < 3) × Left a) axes → All Left axes
       only-left [] h = tt
       only-left (a ∷ axes) h = (h .0 .1, only-left axes (h .1))
 
-      at : (a : ℕ) → a < 3 → All (λ a. differs (alongOf p a) (alongOf d a) ≡ false) (0 ∷ 1 ∷ 2 ∷ []) → differs (alongOf p a) (alongOf d a) ≡ false
-      at zero l h = h .0
-      at (suc zero) l h = h .1 .0
-      at (suc (suc zero)) l h = h .1 .1 .0
-      at (suc (suc (suc n))) l h = absurd (omega arith)
+      none-at : All (λ a. differs (alongOf p a) (alongOf d a) ≡ false) (0 ∷ 1 ∷ 2 ∷ []) → differs (alongOf p a) (alongOf d a) ≡ false
+      none-at h = below-three (λ a. differs (alongOf p a) (alongOf d a) ≡ false) (h .0) (h .1 .0) (h .1 .1 .0) a l

@@ -10,6 +10,7 @@ use lib.ListN.{length, set, drop, replicate, length-set}
 use lib.Seq.{getD-set-same, getD-set-other}
 use lib.IntN.{ℤ, pos, natAbs, _+ℤ_}
 use Rattle.folds.specs.Folds.{fill}
+use Rattle.folds.proofs.Few.{below-three}
 use Rattle.geometry.proofs.Range.{fill-front}
 use Rattle.stairs.specs.declared.Step.{Step}
 use Rattle.stairs.specs.Line.{alongOf, signum}
@@ -40,10 +41,7 @@ long-place d (suc i) = length-set (placeAt d i) _ _ ∙ long-place d i
 -- no further out than the steps taken
 place-near : (d : List ℤ) (i a : ℕ) → a < 3 → natAbs (alongOf (placeAt d i) a) ≤ i
 unfolding placeAt steppedTo
-place-near d zero zero l = omega arith
-place-near d zero (suc zero) l = omega arith
-place-near d zero (suc (suc zero)) l = omega arith
-place-near d zero (suc (suc (suc a))) l = absurd (omega arith)
+place-near d zero a l = below-three (λ a. natAbs (alongOf (placeAt d 0) a) ≤ 0) (omega arith) (omega arith) (omega arith) a l
 place-near d (suc i) a l = go (bestOf (placeAt d i) d) (best-low (placeAt d i) d) (place-near d i a l) (ℕ-discrete a (bestOf (placeAt d i) d))
   where
     go : (b : ℕ) → b < 3 → natAbs (alongOf (placeAt d i) a) ≤ i → Dec (a ≡ b) → natAbs (alongOf (set (placeAt d i) b (alongOf (placeAt d i) b +ℤ signum (alongOf d b))) a) ≤ suc i

@@ -11,6 +11,7 @@ use mir.Syntax.{w32}
 use mir.Val.{Fits, SFits}
 use borrow.Author.Tests.{lt-ltb, le-ltb, ltb-true, ltb-false}
 use Rattle.rows.proofs.Laws.{or-false}
+use Rattle.folds.proofs.Few.{below-three}
 use Rattle.stairs.specs.Line.{alongOf, signum}
 use Rattle.stairs.specs.Offsets.{badOffset, badOffsets, badQuarks, offsetOf, badTime}
 
@@ -101,13 +102,7 @@ unfolding badOffsets
 each-offset d a l h =
     let x = or-false _ _ h in
     let y = or-false _ _ (x .0) in
-    go a l (y .0) (y .1) (x .1)
-  where
-    go : (a : ℕ) → a < 3 → badOffset (alongOf d 0) ≡ false → badOffset (alongOf d 1) ≡ false → badOffset (alongOf d 2) ≡ false → badOffset (alongOf d a) ≡ false
-    go zero l x y z = x
-    go (suc zero) l x y z = y
-    go (suc (suc zero)) l x y z = z
-    go (suc (suc (suc n))) l x y z = absurd (omega arith)
+    below-three (λ a. badOffset (alongOf d a) ≡ false) (y .0) (y .1) (x .1) a l
 
 -- and three quarks' offsets
 pub each-quark : (o : List ℤ) (q : ℕ) → q < 3 → badQuarks o ≡ false → badOffsets (offsetOf o q) ≡ false
@@ -115,13 +110,7 @@ unfolding badQuarks
 each-quark o q l h =
     let x = or-false _ _ h in
     let y = or-false _ _ (x .0) in
-    go q l (y .0) (y .1) (x .1)
-  where
-    go : (q : ℕ) → q < 3 → badOffsets (offsetOf o 0) ≡ false → badOffsets (offsetOf o 1) ≡ false → badOffsets (offsetOf o 2) ≡ false → badOffsets (offsetOf o q) ≡ false
-    go zero l x y z = x
-    go (suc zero) l x y z = y
-    go (suc (suc zero)) l x y z = z
-    go (suc (suc (suc n))) l x y z = absurd (omega arith)
+    below-three (λ q. badOffsets (offsetOf o q) ≡ false) (y .0) (y .1) (x .1) q l
 
 -- ## time lengths
 

@@ -26,7 +26,7 @@ fn step_up(n: usize, c: usize, e: usize, s: usize, w: usize) -> usize
     if c + 1 < e { n + s } else { n + s - w }
 }
 
-// One step down an axis.
+// One step down an axis. The extent is there for `requires`, which is that of a step up.
 fn step_down(n: usize, c: usize, e: usize, s: usize, w: usize) -> usize
     requires { ⌜ StepBounds n c e s w ⌝ }
     ensures { λ r. ⌜ r ≡ downOf n c s w ⌝ }

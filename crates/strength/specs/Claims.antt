@@ -3,7 +3,7 @@ use Prim.Native.Nat.{ℕ, suc, _<_}
 use mathlib.Core.List.{List}
 use mathlib.Core.Path.{_≡_}
 use lib.Ieee.{Float, binary64, ofBits}
-use Rattle.complex.specs.Rounded.{_⊞_, fzero, fone}
+use Rattle.complex.specs.Rounded.{_⊞_, fzero}
 use Rattle.geometry.specs.Steps.{fwdOf, bwdOf}
 use Rattle.links.specs.Field.{Field}
 use Rattle.strength.specs.declared.Density.{Density}
@@ -45,20 +45,11 @@ DensityIsLocal = (d : List ℕ) (U W : Field) (kind : Density) (n : ℕ) → Sam
 abbrev pub electricSum : List ℕ → Field → ℕ → Float
 electricSum d U n = fzero ⊞ electricOf d U n 0 ⊞ electricOf d U n 1 ⊞ electricOf d U n 2
 
--- 2⁻⁵³
-abbrev pub halfStep : Float
-halfStep = ofBits binary64 0x3ca0_0000_0000_0000
-
--- The action density first adds up the three electric densities, from +0 and in the order x, y, z, and goes on with the planes of space.
+-- The action density first adds up the three electric densities, from +0 and in the order x, y, z, and goes on with the planes of space, one by one. No law says that
+-- it is its electric half plus its magnetic half, for f64 sums depend on their order: for t = 2⁻⁵³, 1 + t + t is 1, but 1 + (t + t) is the next f64.
 abbrev pub ActionBeginsElectric : Type 0
 ActionBeginsElectric = (d : List ℕ) (U : Field) (n : ℕ)
     → actionDensityOf d U n ≡ electricSum d U n ⊞ planeDensity d U n 1 2 ⊞ planeDensity d U n 1 3 ⊞ planeDensity d U n 2 3
-
--- No law says that the action density is its electric half plus its magnetic half: the planes of space are added one by one, and f64 sums depend on their
--- order. 1 + t + t is 1, but 1 + (t + t) is the next f64, for t = 2⁻⁵³.
-pub record SumsDependOnOrder : Type 0 where
-  pub inTurn : fone ⊞ halfStep ⊞ halfStep ≡ fone
-  pub inHalves : fone ⊞ (halfStep ⊞ halfStep) ≡ ofBits binary64 0x3ff0_0000_0000_0001
 
 -- ## The charge's factor
 

@@ -1,5 +1,5 @@
-// Visits of sites: the links of one direction there are updated where they stand. What is asked for a caller has
-// checked.
+// Visits of sites: the links of one direction there are updated where they stand. The caller has checked what
+// `requires` asks.
 ghost use Rattle.gauge.specs.Field.{Link};
 ghost use Rattle.visits.specs.Advance.{Visited, Segment, Advanced};
 

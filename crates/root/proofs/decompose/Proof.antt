@@ -1,5 +1,4 @@
 use borrow.Author.Needs.{needs}
-use Prim.Native.Nat.{_-_}
 use native.Mathlib.Omega.{arith}
 use Rattle.root.proofs.Significand.{zeros, shifted, plain}
 use Rattle.root.proofs.decompose.Statement.{statement}
