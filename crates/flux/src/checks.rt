@@ -132,11 +132,10 @@ fn size_row(
     if row != 0 {
         return row;
     }
-    let v = geometry::sites(d);
-    if links != 72 * v {
+    if field_checks::bad_links(d, links) {
         return 3;
     }
-    if densities != count as usize * v {
+    if densities != count as usize * geometry::sites(d) {
         return 3;
     }
     let g = count as usize * cells(n);
