@@ -26,13 +26,13 @@ module _ (grid : List Float) (w : Float) (s : List Float) where
   unfolding badSums badNumbers
   bad-cells a = rw a
 
-  pub bad-loops : finiteNumbers grid ≡ true → finite w ≡ false → badSums grid w s ≡ true
-  unfolding badSums badNumbers badNumber
-  bad-loops a b = rw (a, b)
+  pub bad-densities : finiteNumbers grid ≡ true → finiteNumbers s ≡ false → badSums grid w s ≡ true
+  unfolding badSums badNumbers
+  bad-densities a b = rw (a, b)
 
-  pub sums-left : finiteNumbers grid ≡ true → finite w ≡ true → finiteNumbers s ≡ not (badSums grid w s)
+  pub loops-left : finiteNumbers grid ≡ true → finiteNumbers s ≡ true → finite w ≡ not (badSums grid w s)
   unfolding badSums badNumbers badNumber
-  sums-left a b = rw (a, b) (twice (finiteNumbers s))
+  loops-left a b = rw (a, b) (twice (finite w))
     where
       twice : (x : Bool) → x ≡ not (not x)
       twice true = refl
