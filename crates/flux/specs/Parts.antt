@@ -16,7 +16,7 @@ use Rattle.sums.specs.Ending.{zerosLike, sumsRow}
 use Rattle.gather.specs.Parts.{ParametersFit}
 use Rattle.flux.specs.declared.FluxAccumulator.{FluxAccumulator}
 use Rattle.flux.specs.declared.FluxAnswer.{FluxAnswer}
-use Rattle.flux.specs.Situations.{badGrid, badDensities, badGridList, badScratch, badCount}
+use Rattle.flux.specs.Situations.{badGrid, badDensities, badScratch, badCount}
 use Rattle.flux.specs.Calls.{fluxAnswer}
 
 -- ## Rows that calls have in common, and what holds where they pass
@@ -40,7 +40,7 @@ sizeRows d n count links densities grid scratch =
     ∷ (badGrid n, 1)
     ∷ (badLinks d links, 3)
     ∷ (badDensities d count densities, 3)
-    ∷ (badGridList n count grid, 3)
+    ∷ (badDensities n count grid, 3)
     ∷ (badScratch n count scratch, 3)
     ∷ []
 
