@@ -6,7 +6,7 @@ use mathlib.Core.Path.{_≡_, sym, _∙_}
 use native.Mathlib.Omega.{arith}
 use lib.Dec.{ltb, eqb}
 use lib.ListN.{length, getD}
-use borrow.Author.Tests.{lt-ltb, le-ltb, eq-eqb, ne-eqb, ltb-true, ltb-false, not-false}
+use borrow.Author.Tests.{lt-ltb, le-ltb, eq-eqb, ne-eqb, ltb-true, ltb-false, eqb-true, not-false}
 use Rattle.folds.proofs.Laws.{all-each}
 use Rattle.mat.specs.declared.Su3.{Su3}
 use Rattle.geometry.specs.Radix.{volume, Within}
@@ -33,10 +33,6 @@ module _ (d : List ℕ) where
   unfolding badLinks
   good-links h = rw (eq-eqb _ _ h)
 
-  pub bad-site : {n : ℕ} → volume d ≤ n → badSite d n ≡ true
-  unfolding badSite
-  bad-site h = rw (le-ltb _ _ h)
-
   pub good-site : {n : ℕ} → n < volume d → badSite d n ≡ false
   unfolding badSite
   good-site h = rw (lt-ltb _ _ h)
@@ -58,6 +54,14 @@ unfolding badDirection
 good-direction h = rw (le-ltb _ _ h)
 
 -- ## what a passed test says
+
+pub links-length : (d : List ℕ) {len : ℕ} → badLinks d len ≡ false → len ≡ 72 * volume d
+unfolding badLinks
+links-length d {len} h = eqb-true len (72 * volume d) (not-false _ h)
+
+pub site-below : (d : List ℕ) {n : ℕ} → badSite d n ≡ false → n < volume d
+unfolding badSite
+site-below d {n} h = ltb-true n (volume d) (not-false _ h)
 
 pub plane-axes : (mu nu : ℕ) → badPlane mu nu ≡ false → (mu < 4) × (nu < 4) × (nu ≡ mu → ⊥)
 unfolding badPlane

@@ -9,7 +9,7 @@ ghost use Prim.Native.Nat.{_*_, _<_, _≤_};
 ghost use Rattle.rows.specs.Rows.{Checked};
 ghost use Rattle.geometry.specs.Radix.{volume, Within};
 ghost use Rattle.geometry.specs.Shape.{Shape};
-ghost use Rattle.field_checks.specs.Situations.{badCoupling, badCoords, badPlane};
+ghost use Rattle.field_checks.specs.Situations.{badCoupling, badLinks, badSite, badCoords, badPlane};
 ghost use Rattle.field_checks.specs.Rows.{extentsRows, siteRows, coordsRows, stepRows, fieldRows, fieldSiteRows, planRows, planeRows, linkRows, linkCheckRows};
 
 // The checks: the first row that holds of a call's inputs, and 0 where none does. A check of more rows
@@ -24,6 +24,13 @@ pub fn extents_row(d: [usize; 4]) -> u32
     0
 }
 
+fn bad_site(d: [usize; 4], n: usize) -> bool
+    requires { ⌜ Shape d ⌝ }
+    ensures { λ r. ⌜ r ≡ badSite d n ⌝ }
+{
+    n >= geometry::sites(d)
+}
+
 pub fn site_row(d: [usize; 4], n: usize) -> u32
     ensures { λ r. ⌜ Checked (siteRows d n) (Shape d × (n < volume d)) r ⌝ }
 {
@@ -31,7 +38,7 @@ pub fn site_row(d: [usize; 4], n: usize) -> u32
     if row != 0 {
         return row;
     }
-    if n >= geometry::sites(d) {
+    if bad_site(d, n) {
         return 4;
     }
     0
@@ -74,6 +81,13 @@ pub fn step_row(d: [usize; 4], n: usize, mu: usize) -> u32
     0
 }
 
+pub fn bad_links(d: [usize; 4], len: usize) -> bool
+    requires { ⌜ Shape d ⌝ }
+    ensures { λ r. ⌜ r ≡ badLinks d len ⌝ }
+{
+    len != 72 * geometry::sites(d)
+}
+
 pub fn field_row(d: [usize; 4], len: usize) -> u32
     ensures { λ r. ⌜ Checked (fieldRows d len) (Shape d × (len ≡ 72 * volume d)) r ⌝ }
 {
@@ -81,7 +95,7 @@ pub fn field_row(d: [usize; 4], len: usize) -> u32
     if row != 0 {
         return row;
     }
-    if len != 72 * geometry::sites(d) {
+    if bad_links(d, len) {
         return 3;
     }
     0
@@ -94,7 +108,7 @@ pub fn field_site_row(d: [usize; 4], len: usize, n: usize) -> u32
     if row != 0 {
         return row;
     }
-    if n >= geometry::sites(d) {
+    if bad_site(d, n) {
         return 4;
     }
     0
@@ -122,7 +136,7 @@ pub fn plan_row(d: [usize; 4], c: f64, len: usize) -> u32
     if bad_coupling(c) {
         return 2;
     }
-    if len != 72 * geometry::sites(d) {
+    if bad_links(d, len) {
         return 3;
     }
     0
@@ -160,7 +174,7 @@ pub fn link_row(d: [usize; 4], c: f64, len: usize, n: usize, mu: usize) -> u32
     if row != 0 {
         return row;
     }
-    if n >= geometry::sites(d) {
+    if bad_site(d, n) {
         return 4;
     }
     if mu > 3 {

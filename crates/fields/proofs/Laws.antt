@@ -2,11 +2,11 @@
 use Prim.Native.Nat.{ℕ}
 use mathlib.Core.Bool.{true, false}
 use mathlib.Core.List.{List}
-use mathlib.Core.Path.{_≡_, refl, sym, _∙_}
+use mathlib.Core.Path.{_≡_, refl}
 use native.Mathlib.Omega.{arith}
 use borrow.Author.Tests.{eq-eqb, ne-eqb, ltb-false}
 use lib.Ieee.{Float}
-use Rattle.rows.proofs.Laws.{if-refused, if-accepted}
+use Rattle.rows.proofs.Laws.{if-refused, if-accepted, list-kept, list-new}
 use Rattle.mat.specs.declared.Su3.{Su3}
 use Rattle.geometry.specs.Radix.{volume}
 use Rattle.strength.specs.declared.Density.{Density}
@@ -47,8 +47,8 @@ pub strength-given : {row : ℕ} {f g : List Su3} → 0 ≡ row → f ≡ g → 
 unfolding strengthAnswer
 strength-given {row} {f} {g} same e = rw (← same, if-accepted g sixZeros refl, e)
 
-pub list-kept : {r row : ℕ} (new old : List Float) → r ≡ row → (r ≡ 0 → ⊥) → Filled row new old (record { refusal = r }) old
-list-kept {r} {row} new old same ne = record { answer = rw same; list = rw (← same) (sym (if-refused new old r ne)) }
+pub filled-refused : {r row : ℕ} (new old : List Float) → r ≡ row → (r ≡ 0 → ⊥) → Filled row new old (record { refusal = r }) old
+filled-refused new old same ne = record { answer = rw same; list = list-kept new old same ne }
 
-pub list-filled : {row : ℕ} {new exit : List Float} (old : List Float) → 0 ≡ row → exit ≡ new → Filled row new old (record { refusal = 0 }) exit
-list-filled {row} {new} {exit} old same e = record { answer = rw (← same); list = e ∙ rw (← same) (sym (if-accepted new old refl)) }
+pub filled-accepted : {row : ℕ} {new exit : List Float} (old : List Float) → 0 ≡ row → exit ≡ new → Filled row new old (record { refusal = 0 }) exit
+filled-accepted old same e = record { answer = rw (← same); list = list-new old same e }

@@ -30,7 +30,7 @@ pub fn smear_row(d: [usize; 4], len: usize, second: usize) -> u32
     if row != 0 {
         return row;
     }
-    if second != 72 * geometry::sites(d) {
+    if field_checks::bad_links(d, second) {
         return 3;
     }
     0

@@ -9,11 +9,10 @@ use Rattle.complex.specs.Rounded.{fzero, asFloat}
 use Rattle.geometry.specs.Range.{range}
 use Rattle.geometry.specs.Radix.{volume}
 use Rattle.rows.specs.Rows.{firstRow, ifAccepted}
-use Rattle.rows.proofs.Laws.{if-refused, if-accepted, first-row, last-row}
+use Rattle.rows.proofs.Laws.{if-refused, if-accepted, list-kept, list-new, first-row, last-row}
 use Rattle.slices.specs.Slices.{number}
 use Rattle.sums.specs.Ending.{badSums, zerosLike, sumsRow}
-use Rattle.sums.specs.Means.{meanOf, ratio}
-use Rattle.sums.proofs.Laws.{list-kept, list-new}
+use Rattle.sums.specs.Means.{ratio}
 use Rattle.flux.specs.declared.FluxAccumulator.{FluxAccumulator}
 use Rattle.flux.specs.declared.FluxAnswer.{FluxAnswer}
 use Rattle.flux.specs.Means.{meansOf, correlationAt, correlationList}
@@ -67,7 +66,7 @@ module _ (W : ℕ → Float) (x : Addition) {row : ℕ} (same : row ≡ inputsRo
 module _ (acc : FluxAccumulator) (k : ℕ) (grid : List Float) where
   pub correlations-are : {samples means : Float} {first cells : ℕ} → samples ≡ asFloat (acc .samples) → means ≡ meansOf acc k → first ≡ k * cells → cells ≡ volume (acc .n)
       → map (λ i. ratio samples means (number grid (first + i))) (range cells) ≡ correlationList acc k grid
-  unfolding correlationList correlationAt meanOf
+  unfolding correlationList correlationAt
   correlations-are a b c d = rw (c, a, b, d)
 
   module _ (out : List Float) where

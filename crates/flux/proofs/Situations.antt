@@ -1,18 +1,14 @@
 -- When a situation holds and when not.
 use Prim.Native.Nat.{ℕ, _*_, _<_, _≤_}
-use mathlib.Core.Bool.{Bool, true, false}
+use mathlib.Core.Bool.{true, false}
 use mathlib.Core.List.{List}
 use mathlib.Core.Path.{_≡_}
-use lib.Ieee.{Float, eq}
 use lib.ListN.{getD}
 use borrow.Author.Tests.{lt-ltb, le-ltb, eq-eqb, ne-eqb}
 use Rattle.folds.specs.Folds.{allBelow}
-use Rattle.complex.specs.Rounded.{fzero}
 use Rattle.geometry.specs.Radix.{volume}
 use Rattle.geometry.specs.Shape.{extentTest}
-use Rattle.flux.specs.declared.FluxAccumulator.{FluxAccumulator}
-use Rattle.flux.specs.Means.{meansOf}
-use Rattle.flux.specs.Situations.{badGrid, badDensities, badGridList, badScratch, badCorrelation, badCount, otherCount, badDensity, fullSamples, noSamples, noMeans}
+use Rattle.flux.specs.Situations.{badGrid, badDensities, badScratch, badCorrelation, badCount, otherCount, badDensity, fullSamples, noSamples}
 
 -- ## row 1
 
@@ -27,13 +23,13 @@ module _ (n : List ℕ) where
 
   -- ## row 3
 
-  pub bad-grid-list : (count : ℕ) {len : ℕ} → (len ≡ count * volume n → ⊥) → badGridList n count len ≡ true
-  unfolding badGridList
-  bad-grid-list count h = rw (ne-eqb _ _ h)
+  pub bad-densities : (count : ℕ) {len : ℕ} → (len ≡ count * volume n → ⊥) → badDensities n count len ≡ true
+  unfolding badDensities
+  bad-densities count h = rw (ne-eqb _ _ h)
 
-  pub good-grid-list : (count : ℕ) {len : ℕ} → len ≡ count * volume n → badGridList n count len ≡ false
-  unfolding badGridList
-  good-grid-list count h = rw (eq-eqb _ _ h)
+  pub good-densities : (count : ℕ) {len : ℕ} → len ≡ count * volume n → badDensities n count len ≡ false
+  unfolding badDensities
+  good-densities count h = rw (eq-eqb _ _ h)
 
   pub bad-scratch : (count : ℕ) {len : ℕ} → (len ≡ 2 * (count * volume n) → ⊥) → badScratch n count len ≡ true
   unfolding badScratch
@@ -50,15 +46,6 @@ module _ (n : List ℕ) where
   pub good-correlation : {len : ℕ} → len ≡ volume n → badCorrelation n len ≡ false
   unfolding badCorrelation
   good-correlation h = rw (eq-eqb _ _ h)
-
-module _ (d : List ℕ) (count : ℕ) where
-  pub bad-densities : {len : ℕ} → (len ≡ count * volume d → ⊥) → badDensities d count len ≡ true
-  unfolding badDensities
-  bad-densities h = rw (ne-eqb _ _ h)
-
-  pub good-densities : {len : ℕ} → len ≡ count * volume d → badDensities d count len ≡ false
-  unfolding badDensities
-  good-densities h = rw (eq-eqb _ _ h)
 
 -- ## row 13
 
@@ -107,7 +94,3 @@ no-samples h = rw (eq-eqb _ _ h)
 pub some-samples : {samples : ℕ} → (samples ≡ 0 → ⊥) → noSamples samples ≡ false
 unfolding noSamples
 some-samples h = rw (ne-eqb _ _ h)
-
-pub means-tested : (acc : FluxAccumulator) (k : ℕ) {m : Float} {b : Bool} → m ≡ meansOf acc k → eq m fzero ≡ b → noMeans acc k ≡ b
-unfolding noMeans
-means-tested acc k e h = rw (← e) h

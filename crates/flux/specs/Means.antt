@@ -1,12 +1,12 @@
 -- Means over the samples, and the correlation of the loop with a density.
 use Prim.Native.Nat.{ℕ, _+_, _*_}
 use mathlib.Core.List.{List, map}
-use lib.Ieee.{Float, binary64, div}
-use Rattle.complex.specs.Rounded.{_⊠_}
+use lib.Ieee.{Float}
+use Rattle.complex.specs.Rounded.{_⊠_, asFloat}
 use Rattle.geometry.specs.Range.{range}
 use Rattle.geometry.specs.Radix.{volume}
 use Rattle.slices.specs.Slices.{number}
-use Rattle.sums.specs.Means.{meanOf}
+use Rattle.sums.specs.Means.{meanOf, ratio}
 use Rattle.flux.specs.declared.FluxAccumulator.{FluxAccumulator}
 
 -- ⟨W⟩
@@ -19,7 +19,7 @@ meansOf acc k = meanLoop acc ⊠ meanOf (number (acc .s) k) (acc .samples)
 
 -- C_k(r) = ⟨W S_k(r)⟩ / (⟨W⟩ ⟨S_k⟩) at the r-th offset
 unfoldable pub correlationAt : FluxAccumulator → ℕ → List Float → ℕ → Float
-correlationAt acc k grid r = div binary64 (meanOf (number grid (k * volume (acc .n) + r)) (acc .samples)) (meansOf acc k)
+correlationAt acc k grid r = ratio (asFloat (acc .samples)) (meansOf acc k) (number grid (k * volume (acc .n) + r))
 
 -- at every offset
 unfoldable pub correlationList : FluxAccumulator → ℕ → List Float → List Float

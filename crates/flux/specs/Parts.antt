@@ -16,8 +16,9 @@ use Rattle.sums.specs.Ending.{zerosLike, sumsRow}
 use Rattle.gather.specs.Parts.{ParametersFit}
 use Rattle.flux.specs.declared.FluxAccumulator.{FluxAccumulator}
 use Rattle.flux.specs.declared.FluxAnswer.{FluxAnswer}
-use Rattle.flux.specs.Situations.{badGrid, badDensities, badGridList, badScratch, badCount}
-use Rattle.flux.specs.Calls.{fluxAnswer}
+use Rattle.flux.specs.Situations.{badGrid, badDensities, badScratch, badCount}
+use Rattle.flux.specs.Sums.{Addition, addedGrid, addedOf}
+use Rattle.flux.specs.Calls.{fluxAnswer, loopAt}
 
 -- ## Rows that calls have in common, and what holds where they pass
 
@@ -40,7 +41,7 @@ sizeRows d n count links densities grid scratch =
     ∷ (badGrid n, 1)
     ∷ (badLinks d links, 3)
     ∷ (badDensities d count densities, 3)
-    ∷ (badGridList n count grid, 3)
+    ∷ (badDensities n count grid, 3)
     ∷ (badScratch n count scratch, 3)
     ∷ []
 
@@ -66,6 +67,13 @@ pub record Correlatable (acc : FluxAccumulator) (k grid out : ℕ) : Type 0 wher
   pub small : out ≤ 4096
   pub density : k < 4
   pub there : k * out + out ≤ grid
+
+-- ## What an addition adds up
+
+-- the new accumulator; s has the new grid in its second half
+pub record AddedUp (x : Addition) (new : FluxAccumulator) (s : List Float) : Type 0 where
+  pub sums : new ≡ addedOf (loopAt x) x
+  pub cells : drop (length (x .grid)) s ≡ addedGrid (loopAt x) x
 
 -- ## The end of an addition: row 10, and then the new sums or the old ones
 

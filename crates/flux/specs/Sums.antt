@@ -28,6 +28,9 @@ pub record Addition : Type 0 where
   pub grid : List Float
   pub scratch : List Float
 
+abbrev pub additionOf : FluxAccumulator → List ℕ → ℕ → List Float → List Float → List Float → List Float → Addition
+additionOf acc d count links densities grid scratch = record { acc = acc; extents = d; count = count; links = links; densities = densities; grid = grid; scratch = scratch }
+
 module _ (W : ℕ → Float) (x : Addition) where
   -- the grid's numbers
   unfoldable pub addedGrid : List Float

@@ -1,10 +1,10 @@
 use crate::FluxAccumulator;
-use sums::mean;
+use crate::means::product_of_means;
 ghost use mathlib.Core.Path.{_≡_};
-ghost use Prim.Native.Nat.{_≤_};
+ghost use Prim.Native.Nat.{_<_, _≤_};
 ghost use Rattle.rows.specs.Rows.{Checked};
 ghost use Rattle.geometry.specs.Radix.{volume};
-ghost use Rattle.flux.specs.Situations.{otherGrid, newRows, meanRows, correlationRows, addRows};
+ghost use Rattle.flux.specs.Situations.{noMeans, otherGrid, newRows, meanRows, correlationRows, addRows};
 ghost use Rattle.gather.specs.Parts.{ParametersFit};
 ghost use Rattle.flux.specs.Parts.{gridRows, ownRows, sizeRows, Grid, Sizes, Addable, Correlatable};
 
@@ -79,6 +79,13 @@ pub fn mean_row(acc: FluxAccumulator) -> u32
     0
 }
 
+fn no_means(acc: FluxAccumulator, k: u32) -> bool
+    requires { ⌜ k < 4 ⌝ }
+    ensures { λ r. ⌜ r ≡ noMeans acc k ⌝ }
+{
+    product_of_means(acc, k) == 0.0
+}
+
 pub fn correlation_row(acc: FluxAccumulator, k: u32, grid: usize, out: usize) -> u32
     ensures { λ r. ⌜ Checked (correlationRows acc k grid out) (Correlatable acc k grid out) r ⌝ }
 {
@@ -105,8 +112,7 @@ pub fn correlation_row(acc: FluxAccumulator, k: u32, grid: usize, out: usize) ->
     if acc.samples == 0 {
         return 14;
     }
-    let s = acc.s;
-    if mean(acc.w, acc.samples) * mean(s[k as usize], acc.samples) == 0.0 {
+    if no_means(acc, k) {
         return 14;
     }
     0
@@ -132,11 +138,10 @@ fn size_row(
     if row != 0 {
         return row;
     }
-    let v = geometry::sites(d);
-    if links != 72 * v {
+    if field_checks::bad_links(d, links) {
         return 3;
     }
-    if densities != count as usize * v {
+    if densities != count as usize * geometry::sites(d) {
         return 3;
     }
     let g = count as usize * cells(n);

@@ -4,7 +4,19 @@ use crate::checks::mean_row;
 use rows::ListAnswer;
 use rows::Number;
 use sums::mean;
+ghost use mathlib.Core.Path.{_≡_};
+ghost use Prim.Native.Nat.{_<_};
+ghost use Rattle.flux.specs.Means.{meansOf};
 ghost use Rattle.flux.specs.Calls.{MeanCall, CorrelationCall};
+
+// Mean loop times mean density.
+pub fn product_of_means(acc: FluxAccumulator, k: u32) -> f64
+    requires { ⌜ k < 4 ⌝ }
+    ensures { λ r. ⌜ r ≡ meansOf acc k ⌝ }
+{
+    let s = acc.s;
+    mean(acc.w, acc.samples) * mean(s[k as usize], acc.samples)
+}
 
 impl FluxAccumulator {
     // The mean of the loops so far.
@@ -27,8 +39,7 @@ impl FluxAccumulator {
         if row != 0 {
             return ListAnswer { refusal: row };
         }
-        let s = self.s;
-        let means = mean(self.w, self.samples) * mean(s[k as usize], self.samples);
+        let means = product_of_means(self, k);
         let samples = std::num::nearest_u64_to_f64(self.samples);
         let first = k as usize * out.len();
         if !sums::ratios_finite(grid, first, out.len(), samples, means) {

@@ -33,9 +33,9 @@ impl FluxAccumulator {
     {
         let row = new_row(n, offsets, t_len, count, grid.len());
         if row != 0 {
-            let none = [0usize; 3];
-            let nowhere = [0i32; 9];
-            let zero = empty(none, nowhere, 0, 0);
+            let no_extents = [0usize; 3];
+            let no_offsets = [0i32; 9];
+            let zero = empty(no_extents, no_offsets, 0, 0);
             return FluxAnswer {
                 refusal: row,
                 acc: zero,

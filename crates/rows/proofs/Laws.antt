@@ -67,6 +67,14 @@ module _ {A : Type 0} (accepted refused : A) where
   unfolding ifAccepted
   if-accepted e = rw e
 
+-- a list that a call leaves as it was or stores in
+module _ {A : Type 0} where
+  pub list-kept : {r row : ℕ} (new old : List A) → r ≡ row → (r ≡ 0 → ⊥) → old ≡ ifAccepted row new old
+  list-kept {r} new old same ne = rw (← same) (sym (if-refused new old r ne))
+
+  pub list-new : {row : ℕ} {exit new : List A} (old : List A) → 0 ≡ row → exit ≡ new → exit ≡ ifAccepted row new old
+  list-new {row} {exit} {new} old same e = e ∙ rw (← same) (sym (if-accepted new old refl))
+
 -- ## checks
 
 module _ {rows : List (Bool × ℕ)} {Facts : Type 0} where

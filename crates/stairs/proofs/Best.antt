@@ -11,7 +11,7 @@ use Rattle.complex.specs.Rounded.{fzero}
 use Rattle.stairs.specs.declared.Nearest.{Nearest}
 use Rattle.stairs.specs.Line.{alongOf}
 use Rattle.stairs.specs.Staircase.{differs, stepDist, leftOf, firstMin, leastOf, bestOf}
-use Rattle.stairs.specs.Best.{betterOf}
+use Rattle.stairs.specs.Best.{isBetter, betterOf}
 
 abbrev pub noneFound : Nearest
 noneFound = record { found = false; axis = 0; dist = fzero }
@@ -26,17 +26,13 @@ nearerOf p d best a = cond (differs (alongOf p a) (alongOf d a)) (betterOf best 
 -- ## the better of two
 
 module _ (best : Nearest) (a : ℕ) (dist : Float) where
-  pub better-first : best .found ≡ false → record { found = true; axis = a; dist = dist } ≡ betterOf best a dist
+  pub better-found : isBetter best dist ≡ true → record { found = true; axis = a; dist = dist } ≡ betterOf best a dist
   unfolding betterOf
-  better-first g = rw g
+  better-found h = rw h
 
-  pub better-found : best .found ≡ true → lt dist (best .dist) ≡ true → record { found = true; axis = a; dist = dist } ≡ betterOf best a dist
+  pub better-kept : isBetter best dist ≡ false → best ≡ betterOf best a dist
   unfolding betterOf
-  better-found g l = rw (g, l)
-
-  pub better-kept : best .found ≡ true → lt dist (best .dist) ≡ false → best ≡ betterOf best a dist
-  unfolding betterOf
-  better-kept g l = rw (g, l)
+  better-kept h = rw h
 
 module _ (p d : List ℤ) where
   -- ## one axis
@@ -54,7 +50,7 @@ module _ (p d : List ℤ) where
   over best (a ∷ axes) = over (nearerOf p d best a) axes
 
   goes-on : (best : ℕ) (axes : List ℕ) → over (foundAt p d best) axes .axis ≡ firstMin (stepDist p d) best (leftOf p d axes)
-  unfolding nearerOf betterOf leftOf firstMin
+  unfolding nearerOf betterOf isBetter leftOf firstMin
   goes-on best [] = refl
   goes-on best (a ∷ axes) = go (differs (alongOf p a) (alongOf d a)) (goes-on best axes) (goes-on a axes)
     where
@@ -74,7 +70,7 @@ module _ (p d : List ℤ) where
       go false x y = x
 
   begins : (axes : List ℕ) → over noneFound axes .axis ≡ leastOf (stepDist p d) (leftOf p d axes)
-  unfolding nearerOf betterOf leftOf leastOf
+  unfolding nearerOf betterOf isBetter leftOf leastOf
   begins [] = refl
   begins (a ∷ axes) = go (differs (alongOf p a) (alongOf d a)) (begins axes) (goes-on a axes)
     where

@@ -5,7 +5,7 @@ ghost use Prim.Native.Nat.{_<_, _≤_};
 ghost use lib.IntN.{natAbs, _+ℤ_};
 ghost use Rattle.stairs.specs.Line.{alongOf, realOf, signum, dot, lineDist};
 ghost use Rattle.stairs.specs.Staircase.{differs, steppedTo, bestOf, Reached};
-ghost use Rattle.stairs.specs.Best.{betterOf};
+ghost use Rattle.stairs.specs.Best.{isBetter, betterOf};
 
 // The number along an axis, as an f64.
 fn real(p: [i32; 3], a: usize) -> f64
@@ -91,14 +91,22 @@ pub fn moved(p: [i32; 3], d: [i32; 3], a: usize) -> [i32; 3]
     q
 }
 
+// Whether another axis, at this distance, is better than the best so far.
+fn is_better(best: Nearest, dist: f64) -> bool
+    ensures { λ r. ⌜ r ≡ isBetter best dist ⌝ }
+{
+    if best.found {
+        return dist < best.dist;
+    }
+    true
+}
+
 // The better of the best axis so far and another.
 fn nearer(best: Nearest, a: usize, dist: f64) -> Nearest
     ensures { λ r. ⌜ r ≡ betterOf best a dist ⌝ }
 {
-    if best.found {
-        if !(dist < best.dist) {
-            return best;
-        }
+    if !is_better(best, dist) {
+        return best;
     }
     Nearest {
         found: true,

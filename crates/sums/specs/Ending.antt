@@ -14,9 +14,9 @@ use Rattle.field_checks.specs.Situations.{badNumber}
 abbrev pub zerosLike : List Float → List Float
 zerosLike l = replicate (length l) fzero
 
--- 10: a number of the grid, the loops' sum or one of the densities' sums isn't finite
+-- 10: a number of the grid, one of the densities' sums or the loops' sum isn't finite
 unfoldable pub badSums : List Float → Float → List Float → Bool
-badSums grid w s = badNumbers grid || badNumber w || badNumbers s
+badSums grid w s = badNumbers grid || badNumbers s || badNumber w
 
 -- the row of new sums; s has the new grid in its second half
 abbrev pub sumsRow : List Float → List Float → Float → List Float → ℕ

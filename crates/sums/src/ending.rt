@@ -23,10 +23,10 @@ fn finite_sums(scratch: &[f64], g: usize, w: f64, s: [f64; 4]) -> bool
     if !slices::finite_from(scratch, g) {
         return false;
     }
-    if !rows::is_finite(w) {
+    if !slices::all_finite(&s) {
         return false;
     }
-    slices::all_finite(&s)
+    rows::is_finite(w)
 }
 
 // Stores a grid that stands in the second half of the scratch, where it, w and s are finite; 0, or row 10. The

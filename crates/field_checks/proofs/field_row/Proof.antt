@@ -1,10 +1,8 @@
-use mathlib.Core.Path.{refl, _∙_}
-use native.Mathlib.Omega.{arith}
+use mathlib.Core.Path.{refl, sym, _∙_}
 use borrow.Author.Needs.{needs}
 use Rattle.rows.proofs.Laws.{no-row, row-holds, row-passes, refuses, accepts, first-refuses, first-passes}
 use Rattle.geometry.specs.Shape.{Shape}
-use Rattle.geometry.proofs.Shape.{volume-high}
-use Rattle.field_checks.proofs.Laws.{bad-links, good-links}
+use Rattle.field_checks.proofs.Laws.{links-length}
 use Rattle.field_checks.proofs.field_row.Statement.{statement}
 use Rattle.field_checks.proofs.field_row.Tie as tie
 
@@ -14,21 +12,18 @@ shape c = c .before .extents-row .ensures .accepted (c .if1 .left)
 returns : tie.Need-returns
 returns c = first-refuses (c .before .extents-row .ensures) _ (c .if1 .taken)
 
-sites-requires : tie.Need-sites-requires
-sites-requires c κs = shape c
-
-mul-if2 : tie.Need-mul-if2
-mul-if2 c = let high = volume-high _ (shape (c .before)) in rw (c .sites .ensures) (omega arith)
+bad-links-requires : tie.Need-bad-links-requires
+bad-links-requires c κs = shape c
 
 returns-2 : tie.Need-returns-2
-returns-2 c = refuses 2 (first-passes (c .before .before .before .extents-row .ensures) _ refl (c .before .before .if1 .left) ∙ row-holds 3 _ (bad-links _ (rw (c .before .sites .ensures) at (c .if2 .taken))))
+returns-2 c = refuses 2 (first-passes (c .before .before .before .extents-row .ensures) _ refl (c .before .before .if1 .left) ∙ row-holds 3 _ (sym (c .before .bad-links .ensures) ∙ c .if2 .taken))
 
 returns-3 : tie.Need-returns-3
 returns-3 c =
-    let len = rw (c .before .sites .ensures) at (c .if2 .left) in
+    let good = sym (c .before .bad-links .ensures) ∙ c .if2 .left in
     accepts
-    (first-passes (c .before .before .before .extents-row .ensures) _ refl (c .before .before .if1 .left) ∙ row-passes 3 _ (good-links _ len) ∙ no-row)
-    (shape (c .before .before), len)
+    (first-passes (c .before .before .before .extents-row .ensures) _ refl (c .before .before .if1 .left) ∙ row-passes 3 _ good ∙ no-row)
+    (shape (c .before .before), links-length _ good)
 
 pub field-row-spec : {M : Type 1} → statement M
-field-row-spec = tie.close (tie.spec (λ c κs. search needs) returns sites-requires mul-if2 returns-2 returns-3)
+field-row-spec = tie.close (tie.spec (λ c κs. search needs) returns bad-links-requires returns-2 returns-3)

@@ -1,10 +1,8 @@
 use mathlib.Core.Path.{refl, sym, _∙_}
-use native.Mathlib.Omega.{arith}
 use borrow.Author.Needs.{needs}
 use Rattle.rows.proofs.Laws.{no-row, row-holds, row-passes, refuses, accepts, first-refuses, first-passes}
 use Rattle.geometry.specs.Shape.{Shape}
-use Rattle.geometry.proofs.Shape.{volume-high}
-use Rattle.field_checks.proofs.Laws.{bad-links, good-links}
+use Rattle.field_checks.proofs.Laws.{links-length}
 use Rattle.field_checks.proofs.plan_row.Statement.{statement}
 use Rattle.field_checks.proofs.plan_row.Tie as tie
 
@@ -17,25 +15,22 @@ returns c = first-refuses (c .before .extents-row .ensures) _ (c .if1 .taken)
 returns-2 : tie.Need-returns-2
 returns-2 c = refuses 1 (first-passes (c .before .before .before .extents-row .ensures) _ refl (c .before .before .if1 .left) ∙ row-holds 2 _ (sym (c .before .bad-coupling .ensures) ∙ c .if2 .taken))
 
-sites-requires : tie.Need-sites-requires
-sites-requires c κs = shape (c .before .before)
-
-mul-if3 : tie.Need-mul-if3
-mul-if3 c = let high = volume-high _ (shape (c .before .before .before)) in rw (c .sites .ensures) (omega arith)
+bad-links-requires : tie.Need-bad-links-requires
+bad-links-requires c κs = shape (c .before .before)
 
 returns-3 : tie.Need-returns-3
 returns-3 c =
     let good = sym (c .before .before .before .bad-coupling .ensures) ∙ c .before .before .if2 .left in
     refuses 2
-    (first-passes (c .before .before .before .before .before .extents-row .ensures) _ refl (c .before .before .before .before .if1 .left) ∙ row-passes 2 _ good ∙ row-holds 3 _ (bad-links _ (rw (c .before .sites .ensures) at (c .if3 .taken))))
+    (first-passes (c .before .before .before .before .before .extents-row .ensures) _ refl (c .before .before .before .before .if1 .left) ∙ row-passes 2 _ good ∙ row-holds 3 _ (sym (c .before .bad-links .ensures) ∙ c .if3 .taken))
 
 returns-4 : tie.Need-returns-4
 returns-4 c =
     let good = sym (c .before .before .before .bad-coupling .ensures) ∙ c .before .before .if2 .left in
-    let len = rw (c .before .sites .ensures) at (c .if3 .left) in
+    let long = sym (c .before .bad-links .ensures) ∙ c .if3 .left in
     accepts
-    (first-passes (c .before .before .before .before .before .extents-row .ensures) _ refl (c .before .before .before .before .if1 .left) ∙ row-passes 2 _ good ∙ row-passes 3 _ (good-links _ len) ∙ no-row)
-    (shape (c .before .before .before .before), len)
+    (first-passes (c .before .before .before .before .before .extents-row .ensures) _ refl (c .before .before .before .before .if1 .left) ∙ row-passes 2 _ good ∙ row-passes 3 _ long ∙ no-row)
+    (shape (c .before .before .before .before), links-length _ long)
 
 pub plan-row-spec : {M : Type 1} → statement M
-plan-row-spec = tie.close (tie.spec (λ c κs. search needs) returns (λ c κs. search needs) returns-2 sites-requires mul-if3 returns-3 returns-4)
+plan-row-spec = tie.close (tie.spec (λ c κs. search needs) returns (λ c κs. search needs) returns-2 bad-links-requires returns-3 returns-4)

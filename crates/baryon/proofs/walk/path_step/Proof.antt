@@ -11,7 +11,7 @@ returns : tie.Need-returns
 returns c = stepped-refused _ _ _ _ (c .if1 .taken)
 
 returns-2 : tie.Need-returns-2
-returns-2 c = c .refused-path .ensures ∙ stepped-off _ _ _ _ (c .before .before .before .if1 .left) (c .before .if2 .taken)
+returns-2 c = c .refused-path .ensures ∙ stepped-off _ _ _ _ (c .before .before .before .if1 .left) (omega (arith, c .before .if2 .taken))
 
 sites-requires : tie.Need-sites-requires
 sites-requires c κs = c .before .before .before .before .before .pre .holds (c .before .before .if1 .left) .shape

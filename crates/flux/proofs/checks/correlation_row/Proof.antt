@@ -1,7 +1,7 @@
 use Prim.Native.Nat.{ℕ, _<_}
 use mathlib.Core.Bool.{Bool}
 use mathlib.Core.List.{List, [], _∷_, _++_}
-use mathlib.Core.Path.{_≡_, refl, _∙_}
+use mathlib.Core.Path.{_≡_, refl, sym, _∙_}
 use Rattle.rows.specs.Rows.{firstRow}
 use Rattle.flux.specs.declared.FluxAccumulator.{FluxAccumulator}
 use Rattle.flux.specs.Situations.{badDensity, noSamples, noMeans, correlationRows}
@@ -9,8 +9,7 @@ use Rattle.flux.specs.Parts.{ownRows}
 use native.Mathlib.Nat.{mul-le-mul, mul-le-mul-right, le-of-lt}
 use native.Mathlib.Omega.{arith}
 use Rattle.rows.proofs.Laws.{no-row, row-holds, row-passes, refuses, accepts, first-refuses, first-passes}
-use Rattle.flux.specs.Means.{meanLoop, meansOf}
-use Rattle.flux.proofs.Situations.{bad-grid-list, good-grid-list, bad-correlation, good-correlation, bad-density, good-density, no-samples, some-samples, means-tested}
+use Rattle.flux.proofs.Situations.{bad-densities, good-densities, bad-correlation, good-correlation, bad-density, good-density, no-samples, some-samples}
 use Rattle.rows.proofs.Laws.{next-refuses, next-passes}
 use borrow.Author.Needs.{needs}
 use Rattle.flux.proofs.checks.correlation_row.Statement.{statement}
@@ -23,7 +22,7 @@ last acc k = (badDensity k (acc .count), 13) ∷ (noSamples (acc .samples), 14) 
 sized : (c : tie.Else3) → let q = c .before .before .before .before .before .before .before .args in firstRow (correlationRows (q .acc) (q .k) (q .grid) (q .out)) ≡ firstRow (ownRows (q .acc .offsets) (q .acc .«t_len») (q .acc .count) ++ last (q .acc) (q .k))
 sized c =
     first-passes (c .before .before .before .before .before .grid-row .ensures) _ refl (c .before .before .before .before .if1 .left)
-    ∙ row-passes 3 _ (good-grid-list _ _ (rw (c .before .before .before .cells .ensures .0) at (c .before .if2 .left)))
+    ∙ row-passes 3 _ (good-densities _ _ (rw (c .before .before .before .cells .ensures .0) at (c .before .if2 .left)))
     ∙ row-passes 3 _ (good-correlation _ (rw (c .before .before .before .cells .ensures .0) at (c .if3 .left)))
 
 -- and the accumulator's own numbers in range
@@ -43,13 +42,13 @@ mul-if2 c =
     omega (arith, mul-le-mul (le-of-lt narrow) (c .before .cells .ensures .1))
 
 returns-2 : tie.Need-returns-2
-returns-2 c = refuses 2 (first-passes (c .before .before .before .before .grid-row .ensures) _ refl (c .before .before .before .if1 .left) ∙ row-holds 3 _ (bad-grid-list _ _ (rw (c .before .before .cells .ensures .0) at (c .if2 .taken))))
+returns-2 c = refuses 2 (first-passes (c .before .before .before .before .grid-row .ensures) _ refl (c .before .before .before .if1 .left) ∙ row-holds 3 _ (bad-densities _ _ (rw (c .before .before .cells .ensures .0) at (c .if2 .taken))))
 
 returns-3 : tie.Need-returns-3
 returns-3 c =
     refuses 2
     (first-passes (c .before .before .before .before .before .grid-row .ensures) _ refl (c .before .before .before .before .if1 .left)
-    ∙ row-passes 3 _ (good-grid-list _ _ (rw (c .before .before .before .cells .ensures .0) at (c .before .if2 .left)))
+    ∙ row-passes 3 _ (good-densities _ _ (rw (c .before .before .before .cells .ensures .0) at (c .before .if2 .left)))
     ∙ row-holds 3 _ (bad-correlation _ (rw (c .before .before .before .cells .ensures .0) at (c .if3 .taken))))
 
 returns-4 : tie.Need-returns-4
@@ -61,36 +60,34 @@ returns-5 c = refuses 12 (passed (c .before .before) ∙ row-holds 13 _ (bad-den
 returns-6 : tie.Need-returns-6
 returns-6 c = refuses 13 (passed (c .before .before .before .before) ∙ row-passes 13 _ (good-density (c .before .before .if5 .left)) ∙ row-holds 14 _ (no-samples (c .if6 .taken)))
 
-array-read-mean : tie.Need-array-read-mean
-array-read-mean c = omega (arith, c .before .before .before .before .if5 .left, c .before .before .before .before .before .before .before .own-row .ensures .accepted (c .before .before .before .before .before .before .if4 .left) .few)
+no-means-requires : tie.Need-no-means-requires
+no-means-requires c κs = omega (arith, c .before .before .if5 .left, c .before .before .before .before .before .own-row .ensures .accepted (c .before .before .before .before .if4 .left) .few)
 
 returns-7 : tie.Need-returns-7
-unfolding meansOf meanLoop
 returns-7 c =
     refuses 13
-    (passed (c .before .before .before .before .before .before .before .before)
-    ∙ row-passes 13 _ (good-density (c .before .before .before .before .before .before .if5 .left))
-    ∙ row-passes 14 _ (some-samples (c .before .before .before .before .if6 .left))
-    ∙ row-holds 14 _ (means-tested _ _ (rw (c .before .before .mean .ensures, c .before .mean2 .ensures)) (c .if7 .taken)))
+    (passed (c .before .before .before .before .before .before)
+    ∙ row-passes 13 _ (good-density (c .before .before .before .before .if5 .left))
+    ∙ row-passes 14 _ (some-samples (c .before .before .if6 .left))
+    ∙ row-holds 14 _ (sym (c .before .no-means .ensures) ∙ c .if7 .taken))
 
 returns-8 : tie.Need-returns-8
-unfolding meansOf meanLoop
 returns-8 c =
-    let own = c .before .before .before .before .before .before .before .before .before .own-row .ensures .accepted (c .before .before .before .before .before .before .before .before .if4 .left) in
-    let out = c .before .before .before .before .before .before .before .before .before .before .before .if3 .left in
-    let next = mul-le-mul-right (c .before .before .before .before .before .before .before .before .before .before .before .before .before .before .cells .result) (c .before .before .before .before .before .before .if5 .left) in
+    let own = c .before .before .before .before .before .before .before .own-row .ensures .accepted (c .before .before .before .before .before .before .if4 .left) in
+    let out = c .before .before .before .before .before .before .before .before .before .if3 .left in
+    let next = mul-le-mul-right (c .before .before .before .before .before .before .before .before .before .before .before .before .cells .result) (c .before .before .before .before .if5 .left) in
     accepts
-    (passed (c .before .before .before .before .before .before .before .before)
-    ∙ row-passes 13 _ (good-density (c .before .before .before .before .before .before .if5 .left))
-    ∙ row-passes 14 _ (some-samples (c .before .before .before .before .if6 .left))
-    ∙ row-passes 14 _ (means-tested _ _ (rw (c .before .before .mean .ensures, c .before .mean2 .ensures)) (c .if7 .left))
+    (passed (c .before .before .before .before .before .before)
+    ∙ row-passes 13 _ (good-density (c .before .before .before .before .if5 .left))
+    ∙ row-passes 14 _ (some-samples (c .before .before .if6 .left))
+    ∙ row-passes 14 _ (sym (c .before .no-means .ensures) ∙ c .if7 .left)
     ∙ no-row)
     (record {
-      cells = rw (c .before .before .before .before .before .before .before .before .before .before .before .before .before .before .cells .ensures .0) at out;
-      small = omega (arith, c .before .before .before .before .before .before .before .before .before .before .before .before .before .before .cells .ensures .1, out);
-      density = omega (arith, c .before .before .before .before .before .before .if5 .left, own .few);
-      there = rw out (omega (arith, next, c .before .before .before .before .before .before .before .before .before .before .before .before .if2 .left));
+      cells = rw (c .before .before .before .before .before .before .before .before .before .before .before .before .cells .ensures .0) at out;
+      small = omega (arith, c .before .before .before .before .before .before .before .before .before .before .before .before .cells .ensures .1, out);
+      density = omega (arith, c .before .before .before .before .if5 .left, own .few);
+      there = rw out (omega (arith, next, c .before .before .before .before .before .before .before .before .before .before .if2 .left));
     })
 
 pub correlation-row-spec : {M : Type 1} → statement M
-correlation-row-spec = tie.close (tie.spec (λ c κs. search needs) returns cells-requires (λ c. search needs) mul-if2 returns-2 returns-3 (λ c κs. search needs) returns-4 returns-5 returns-6 (λ c κs. search needs) (λ c. search needs) array-read-mean (λ c κs. search needs) returns-7 returns-8)
+correlation-row-spec = tie.close (tie.spec (λ c κs. search needs) returns cells-requires (λ c. search needs) mul-if2 returns-2 returns-3 (λ c κs. search needs) returns-4 returns-5 returns-6 no-means-requires returns-7 returns-8)

@@ -1,8 +1,7 @@
 use mathlib.Core.Path.{sym, _∙_}
 use native.Mathlib.Omega.{arith}
 use borrow.Author.Tests.{not-true, not-false}
-use Rattle.rows.proofs.Laws.{no-row, row-holds, row-passes}
-use Rattle.sums.proofs.Laws.{list-kept, list-new}
+use Rattle.rows.proofs.Laws.{no-row, row-holds, row-passes, list-kept, list-new}
 use borrow.Author.Needs.{needs}
 use Rattle.sums.proofs.ending.store.Statement.{statement}
 use Rattle.sums.proofs.ending.store.Tie as tie
