@@ -18,8 +18,6 @@ enum {
     MOST_SITES = 64,
     NUMBERS_PER_SITE = 72, /* of the links */
     PRINTED = 3, /* frames */
-    VISITED = 6, /* places in a job */
-    STUCK = 7
 };
 
 static const double coupling = 6.0;
@@ -68,16 +66,16 @@ static uint32_t measure_field(const size_t ext[4], size_t n, struct measurements
 static uint32_t half_sweep(const size_t ext[4], size_t n, struct measurements *m)
 {
     uint64_t pass[1] = {0}; /* of the field: every opening moves it on, so keep it from one half-sweep to the next */
-    uint64_t job[9];
+    uint64_t job[JJ_JOB_LEN];
     uint32_t row, finished[1];
     if ((row = jj_open_overrelax(ext, coupling, seed, pass, 0, 0, job)) != 0)
         return row;
     for (int i = 0; i < PRINTED; i++) {
         if ((row = jj_frame_overrelax(job, printed_sizes[i], links, n)) != 0)
             return row;
-        m->visited[i] = job[VISITED];
+        m->visited[i] = job[JJ_JOB_VISITED];
     }
-    m->stuck = job[STUCK];
+    m->stuck = job[JJ_JOB_STUCK];
 
     /* To its end, as a host does it: a frame, a picture, a frame. The last frame may have fewer sites left. */
     while ((row = jj_finished(job, finished)) == 0 && !finished[0]) {

@@ -27,8 +27,8 @@ fn lengths() {
     average(b"1151 link numbers: ", &short);
     let r = lattice::plaquette(EXTENTS, 16, 0, 1, &short);
     line(b"plaquette at site 16 of 1151 link numbers: ", r.refusal);
-    let len = [0.0; 1153];
-    average(b"1153 link numbers: ", &len);
+    let longer = [0.0; 1153];
+    average(b"1153 link numbers: ", &longer);
     let zeros = [0.0; 1152];
     average(b"1152 link numbers: ", &zeros);
 }
@@ -43,8 +43,8 @@ fn smearing(links: &[f64]) {
 }
 
 fn densities(links: &[f64]) {
-    let mut len = [7.0; 17];
-    electric(b"17 density numbers: ", 2, links, &mut len);
+    let mut longer = [7.0; 17];
+    electric(b"17 density numbers: ", 2, links, &mut longer);
     let mut density = [7.0; 16];
     electric(b"electric axis 3: ", 3, links, &mut density);
     let mut density = [7.0; 16];

@@ -2,7 +2,7 @@
 // project's calls to them, or for a hash of many. The Rust printed the stored output, so these calls
 // are held to a sample of its answers, and no Rust is needed. compare/src/sample.rs has the lines.
 fn main() {
-    lines::all_lines();
-    gluons::all_lines();
-    quarks::all_lines();
+    replay_lines::all_lines();
+    replay_fields::all_lines();
+    replay_baryon::all_lines();
 }
