@@ -6,9 +6,9 @@ use baryon::Step;
 
 const EXTENTS: [usize; 4] = [2, 4, 2, 2];
 
-// The product, worked out in whole numbers: link of +x at site 0, of +y at 2, then the adjoints of those
-// of +x at 8 and +t at 9, and the link of +z at 9. No sum on the way is as large as 2^53, so that none is
-// rounded, and its order doesn't matter.
+// The product, worked out apart in whole numbers, and the same by the Rust's path: the link of x at
+// site 0, of y at 2, the adjoints of those of x at 8 and of t at 9, and the link of z at 9. No sum on the
+// way is as large as 2^53, so that none is rounded and their order doesn't matter.
 const PRODUCT: [f64; 18] = [
     161.0,
     -7219.0,
