@@ -192,8 +192,8 @@ uint32_t jj_link_check(const size_t ext[4], const double *links, size_t n, uint3
  *
  * The update of a link u whose staples' sum is a: w = u a; then, for the subgroups 0, 1, 2 in turn, v is the projection
  * of w's block, h the conjugate of v / |v|, and the subgroup's rows of u and of w are left-multiplied by h h; at last u
- * is projected as by jj_su3_reunitarize. The link is stuck where a |v| is below 1e-12, or where the update has a number
- * that is not finite.
+ * is projected as by jj_su3_reunitarize. The link is stuck where a |v| is below 1e-12, or where one of the 18 numbers that
+ * it ends with is not finite.
  *
  * A half-sweep updates the links of one direction at the sites of one parity. A job is a half-sweep under way, as nine
  * numbers: extents t, x, y, z, direction, parity, visited, stuck, pass. Of the parity's sites in ascending order the

@@ -8,7 +8,7 @@ use borrow.Author.Tests.{lt-ltb, le-ltb, eq-eqb, ne-eqb}
 use Rattle.folds.specs.Folds.{allBelow}
 use Rattle.geometry.specs.Radix.{volume}
 use Rattle.geometry.specs.Shape.{extentTest}
-use Rattle.flux.specs.Situations.{badGrid, badDensities, badScratch, badCorrelation, badCount, otherCount, badDensity, fullSamples, noSamples}
+use Rattle.flux.specs.Situations.{badGrid, badPerDensity, badScratch, badCorrelation, badCount, otherCount, badDensity, fullSamples, noSamples}
 
 -- ## row 1
 
@@ -23,13 +23,13 @@ module _ (n : List ℕ) where
 
   -- ## row 3
 
-  pub bad-densities : (count : ℕ) {len : ℕ} → (len ≡ count * volume n → ⊥) → badDensities n count len ≡ true
-  unfolding badDensities
-  bad-densities count h = rw (ne-eqb _ _ h)
+  pub bad-per-density : (count : ℕ) {len : ℕ} → (len ≡ count * volume n → ⊥) → badPerDensity n count len ≡ true
+  unfolding badPerDensity
+  bad-per-density count h = rw (ne-eqb _ _ h)
 
-  pub good-densities : (count : ℕ) {len : ℕ} → len ≡ count * volume n → badDensities n count len ≡ false
-  unfolding badDensities
-  good-densities count h = rw (eq-eqb _ _ h)
+  pub good-per-density : (count : ℕ) {len : ℕ} → len ≡ count * volume n → badPerDensity n count len ≡ false
+  unfolding badPerDensity
+  good-per-density count h = rw (eq-eqb _ _ h)
 
   pub bad-scratch : (count : ℕ) {len : ℕ} → (len ≡ 2 * (count * volume n) → ⊥) → badScratch n count len ≡ true
   unfolding badScratch

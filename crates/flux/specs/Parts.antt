@@ -16,7 +16,7 @@ use Rattle.sums.specs.Ending.{zerosLike, sumsRow}
 use Rattle.gather.specs.Parts.{ParametersFit}
 use Rattle.flux.specs.declared.FluxAccumulator.{FluxAccumulator}
 use Rattle.flux.specs.declared.FluxAnswer.{FluxAnswer}
-use Rattle.flux.specs.Situations.{badGrid, badDensities, badScratch, badCount}
+use Rattle.flux.specs.Situations.{badGrid, badPerDensity, badScratch, badCount}
 use Rattle.flux.specs.Sums.{Addition, addedGrid, addedOf}
 use Rattle.flux.specs.Calls.{fluxAnswer, loopAt}
 
@@ -31,8 +31,8 @@ pub record Grid (n : List ℕ) : Type 0 where
   pub each : (a : ℕ) → a < 3 → Extent (getD n a 0)
 
 -- offsets, time length and count of densities
-abbrev pub ownRows : List ℤ → ℕ → ℕ → RowList
-ownRows o t count = (badQuarks o, 11) ∷ (badTime t, 11) ∷ (badCount count, 13) ∷ []
+abbrev pub parametersRows : List ℤ → ℕ → ℕ → RowList
+parametersRows o t count = (badQuarks o, 11) ∷ (badTime t, 11) ∷ (badCount count, 13) ∷ []
 
 -- both extents of an addition, and the lengths of its lists
 abbrev pub sizeRows : List ℕ → List ℕ → ℕ → ℕ → ℕ → ℕ → ℕ → RowList
@@ -40,8 +40,8 @@ sizeRows d n count links densities grid scratch =
     (badExtents d, 1)
     ∷ (badGrid n, 1)
     ∷ (badLinks d links, 3)
-    ∷ (badDensities d count densities, 3)
-    ∷ (badDensities n count grid, 3)
+    ∷ (badPerDensity d count densities, 3)
+    ∷ (badPerDensity n count grid, 3)
     ∷ (badScratch n count scratch, 3)
     ∷ []
 

@@ -23,8 +23,8 @@ unfoldable pub badGrid : List ℕ → Bool
 badGrid n = not (allBelow (λ a. extentTest (getD n a 0)) 3)
 
 -- 3: a list of wrong length: of so many densities at every place of extents e, which are a field's or their grid's; of the scratch; of one density's correlation
-unfoldable pub badDensities : List ℕ → ℕ → ℕ → Bool
-badDensities e count len = not (eqb len (count * volume e))
+unfoldable pub badPerDensity : List ℕ → ℕ → ℕ → Bool
+badPerDensity e count len = not (eqb len (count * volume e))
 
 unfoldable pub badScratch : List ℕ → ℕ → ℕ → Bool
 badScratch n count len = not (eqb len (2 * (count * volume n)))
@@ -63,7 +63,7 @@ noMeans acc k = eq (meansOf acc k) fzero
 
 -- new; o are the three offsets, t the time length, len the length of the grid's list
 abbrev pub newRows : List ℕ → List ℤ → ℕ → ℕ → ℕ → RowList
-newRows n o t count len = (badGrid n, 1) ∷ (badDensities n count len, 3) ∷ (badQuarks o, 11) ∷ (badTime t, 11) ∷ (badCount count, 13) ∷ []
+newRows n o t count len = (badGrid n, 1) ∷ (badPerDensity n count len, 3) ∷ (badQuarks o, 11) ∷ (badTime t, 11) ∷ (badCount count, 13) ∷ []
 
 -- mean_loop
 abbrev pub meanRows : FluxAccumulator → RowList
@@ -79,7 +79,7 @@ meanRows acc =
 abbrev pub correlationRows : FluxAccumulator → ℕ → ℕ → ℕ → RowList
 correlationRows acc k grid out =
     (badGrid (acc .n), 1)
-    ∷ (badDensities (acc .n) (acc .count) grid, 3)
+    ∷ (badPerDensity (acc .n) (acc .count) grid, 3)
     ∷ (badCorrelation (acc .n) out, 3)
     ∷ (badQuarks (acc .offsets), 11)
     ∷ (badTime (acc .«t_len»), 11)
@@ -95,8 +95,8 @@ addRows acc d count links densities grid scratch =
     (badExtents d, 1)
     ∷ (badGrid (acc .n), 1)
     ∷ (badLinks d links, 3)
-    ∷ (badDensities d count densities, 3)
-    ∷ (badDensities (acc .n) count grid, 3)
+    ∷ (badPerDensity d count densities, 3)
+    ∷ (badPerDensity (acc .n) count grid, 3)
     ∷ (badScratch (acc .n) count scratch, 3)
     ∷ (badQuarks (acc .offsets), 11)
     ∷ (badTime (acc .«t_len»), 11)

@@ -1,12 +1,12 @@
 use crate::FluxAccumulator;
-use crate::means::product_of_means;
+use crate::product_of_means;
 ghost use mathlib.Core.Path.{_≡_};
 ghost use Prim.Native.Nat.{_<_, _≤_};
 ghost use Rattle.rows.specs.Rows.{Checked};
 ghost use Rattle.geometry.specs.Radix.{volume};
 ghost use Rattle.flux.specs.Situations.{noMeans, otherGrid, newRows, meanRows, correlationRows, addRows};
 ghost use Rattle.gather.specs.Parts.{ParametersFit};
-ghost use Rattle.flux.specs.Parts.{gridRows, ownRows, sizeRows, Grid, Sizes, Addable, Correlatable};
+ghost use Rattle.flux.specs.Parts.{gridRows, parametersRows, sizeRows, Grid, Sizes, Addable, Correlatable};
 
 // The checks: the first row that holds of a call's inputs, and 0 where none does.
 
@@ -29,8 +29,8 @@ fn cells(n: [usize; 3]) -> usize
     n[0] * (n[1] * n[2])
 }
 
-fn own_row(o: [i32; 9], t: usize, count: u32) -> u32
-    ensures { λ r. ⌜ Checked (ownRows o t count) (ParametersFit o t count) r ⌝ }
+fn parameters_row(o: [i32; 9], t: usize, count: u32) -> u32
+    ensures { λ r. ⌜ Checked (parametersRows o t count) (ParametersFit o t count) r ⌝ }
 {
     if stairs::bad_quarks(o) {
         return 11;
@@ -57,7 +57,7 @@ pub fn new_row(n: [usize; 3], o: [i32; 9], t: usize, count: u32, len: usize) -> 
     if len != count as usize * cells(n) {
         return 3;
     }
-    own_row(o, t, count)
+    parameters_row(o, t, count)
 }
 
 pub fn mean_row(acc: FluxAccumulator) -> u32
@@ -69,7 +69,7 @@ pub fn mean_row(acc: FluxAccumulator) -> u32
         return row;
     }
     let o = acc.offsets;
-    let row = own_row(o, acc.t_len, acc.count);
+    let row = parameters_row(o, acc.t_len, acc.count);
     if row != 0 {
         return row;
     }
@@ -102,7 +102,7 @@ pub fn correlation_row(acc: FluxAccumulator, k: u32, grid: usize, out: usize) ->
         return 3;
     }
     let o = acc.offsets;
-    let row = own_row(o, acc.t_len, acc.count);
+    let row = parameters_row(o, acc.t_len, acc.count);
     if row != 0 {
         return row;
     }
@@ -183,7 +183,7 @@ pub fn add_row(
         return row;
     }
     let o = acc.offsets;
-    let row = own_row(o, acc.t_len, count);
+    let row = parameters_row(o, acc.t_len, count);
     if row != 0 {
         return row;
     }

@@ -7,6 +7,11 @@ mod checks;
 mod means;
 mod start;
 
+use sums::mean;
+ghost use mathlib.Core.Path.{_≡_};
+ghost use Prim.Native.Nat.{_<_};
+ghost use Rattle.flux.specs.Means.{meansOf};
+
 // Sums over the fields added so far: n are the grid's extents x, y, z, offsets those of three quarks, x, y, z
 // each, and t_len the loops' time length. Of the sums s the first count are in use.
 pub struct FluxAccumulator {
@@ -24,4 +29,13 @@ pub struct FluxAccumulator {
 pub struct FluxAnswer {
     pub refusal: u32,
     pub acc: FluxAccumulator,
+}
+
+// Mean loop times mean density.
+fn product_of_means(acc: FluxAccumulator, k: u32) -> f64
+    requires { ⌜ k < 4 ⌝ }
+    ensures { λ r. ⌜ r ≡ meansOf acc k ⌝ }
+{
+    let s = acc.s;
+    mean(acc.w, acc.samples) * mean(s[k as usize], acc.samples)
 }

@@ -1,22 +1,11 @@
 use crate::FluxAccumulator;
 use crate::checks::correlation_row;
 use crate::checks::mean_row;
+use crate::product_of_means;
 use rows::ListAnswer;
 use rows::Number;
 use sums::mean;
-ghost use mathlib.Core.Path.{_≡_};
-ghost use Prim.Native.Nat.{_<_};
-ghost use Rattle.flux.specs.Means.{meansOf};
 ghost use Rattle.flux.specs.Calls.{MeanCall, CorrelationCall};
-
-// Mean loop times mean density.
-pub fn product_of_means(acc: FluxAccumulator, k: u32) -> f64
-    requires { ⌜ k < 4 ⌝ }
-    ensures { λ r. ⌜ r ≡ meansOf acc k ⌝ }
-{
-    let s = acc.s;
-    mean(acc.w, acc.samples) * mean(s[k as usize], acc.samples)
-}
 
 impl FluxAccumulator {
     // The mean of the loops so far.

@@ -35,6 +35,6 @@ module _ (d : List ℤ) where
   unfolding stairsOf
   stairs-passable h e = rw e (record {
     few = steps-low d h;
-    len = rw (length-append, long-staircase) (omega arith);
+    room = rw (length-append, long-staircase) (omega arith);
     axes = λ i l. rw (List·getD-append (staircaseOf d) (replicate rest noStep) noStep i (rw long-staircase l)) (step-axis i l);
   })

@@ -166,7 +166,7 @@ module _ (d : List ℕ) (shape : Shape d) (U : Field) where
   unfolding pathOf
   path-below n s h free =
       steps-below (record { u = identityOf; site = n }) (taken s) h
-      (λ i l. let k : i < s .count = omega (arith, length-take-le (s .count) (s .steps) (free .len)) in rw (getD-take (s .count) (s .steps) i noStep k) (free .axes i k))
+      (λ i l. let k : i < s .count = omega (arith, length-take-le (s .count) (s .steps) (free .room)) in rw (getD-take (s .count) (s .steps) i noStep k) (free .axes i k))
 
 pub later-below : (d : List ℕ) → Shape d → (n t : ℕ) → n < volume d → laterOf d n t < volume d
 unfolding laterOf

@@ -65,5 +65,5 @@ pub record From (d s : List ℕ) (l : List Float) (p : Spot) : Type 0 where
 -- steps that can be taken
 pub record Passable (s : Stairs) : Type 0 where
   pub few : s .count ≤ 96
-  pub len : s .count ≤ length (s .steps)
+  pub room : s .count ≤ length (s .steps)
   pub axes : (i : ℕ) → i < s .count → getD (s .steps) i noStep .axis < 4

@@ -116,7 +116,7 @@ fn xoshiro256(tally: Tally, wanted: &[u64; 10]) -> Tally {
         t = t.whole(b"xoshiro256++ ", d.value, wanted[i]);
         g = d.rng;
         let l = rng::draw_by_ref(h);
-        t = t.whole(b"xoshiro256++ lent ", l.value, wanted[i]);
+        t = t.whole(b"xoshiro256++ by reference ", l.value, wanted[i]);
         h = l.rng;
     }
     t

@@ -15,8 +15,6 @@ use Rattle.geometry.proofs.Bounds.{product}
 use Rattle.gauge.specs.Polyakov.{space}
 use Rattle.gauge.proofs.TimeLine.{places-small}
 use Rattle.slices.specs.Slices.{shifted}
--- the number of a site, for those who sum over slices
-pub use Rattle.gauge.proofs.TimeLine.{site-at}
 
 pub space-are : (d : List ℕ) → Shape d → space d ≡ getD d 1 0 ∷ getD d 2 0 ∷ getD d 3 0 ∷ []
 space-are d s = ap (λ (l : List ℕ). drop 1 l) (four-are d (s .four))

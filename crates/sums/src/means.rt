@@ -15,7 +15,7 @@ pub fn mean(sum: f64, samples: u64) -> f64
 }
 
 // A cell's mean over the product of the means.
-fn ratio(sum: f64, samples: f64, means: f64) -> f64
+fn ratio(samples: f64, means: f64, sum: f64) -> f64
     ensures { λ r. ⌜ r ≡ ratio samples means sum ⌝ }
 {
     sum / samples / means
@@ -27,7 +27,7 @@ pub fn ratios_finite(grid: &[f64], first: usize, cells: usize, samples: f64, mea
     ensures { λ r. ⌜ r ≡ finiteNumbers (map (λ i. ratio samples means (number (now (grid .entry)) (first + i))) (range cells)) ⌝ }
 {
     for i in 0..cells {
-        if !rows::is_finite(ratio(grid[first + i], samples, means)) {
+        if !rows::is_finite(ratio(samples, means, grid[first + i])) {
             return false;
         }
     }
@@ -40,6 +40,6 @@ pub fn store_ratios(grid: &[f64], first: usize, samples: f64, means: f64, out: &
     ensures { λ _. ⌜ now (out .exit) ≡ map (λ i. ratio samples means (number (now (grid .entry)) (first + i))) (range (length (now (out .entry)))) ⌝ }
 {
     for i in 0..out.len() {
-        out[i] = ratio(grid[first + i], samples, means);
+        out[i] = ratio(samples, means, grid[first + i]);
     }
 }

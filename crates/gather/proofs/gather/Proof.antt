@@ -11,7 +11,7 @@ use Rattle.gauge.proofs.TimeLine.{places-are, places-small}
 use Rattle.paths.specs.Path.{taken}
 use Rattle.contraction.specs.Baryon.{loopOf}
 use Rattle.slices.specs.Slices.{places, loopsAfter, loopsOf, gridAfter, gridOf}
-use Rattle.slices.proofs.Places.{site-at}
+use Rattle.gauge.proofs.TimeLine.{site-at}
 use Rattle.slices.proofs.Laws.{slice-fits, front-filled, loop-sum, loops-start, loops-next, loops-done, grid-start, back-kept, grid-next, grid-done}
 use Rattle.gather.proofs.Quarks.{in-reach, quark-passable, loops-are}
 use Rattle.gather.proofs.gather.Statement.{statement}

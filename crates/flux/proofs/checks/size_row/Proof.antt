@@ -4,14 +4,14 @@ use mathlib.Core.Path.{_≡_, refl, sym, _∙_}
 use Rattle.geometry.specs.Shape.{Shape}
 use Rattle.rows.specs.Rows.{firstRow}
 use Rattle.field_checks.specs.Situations.{badLinks}
-use Rattle.flux.specs.Situations.{badDensities, badScratch}
+use Rattle.flux.specs.Situations.{badPerDensity, badScratch}
 use Rattle.flux.specs.Parts.{sizeRows}
 use native.Mathlib.Nat.{mul-le-mul, le-of-lt}
 use native.Mathlib.Omega.{arith}
 use Rattle.rows.proofs.Laws.{no-row, row-holds, row-passes, refuses, accepts, first-refuses, first-passes}
 use Rattle.geometry.proofs.Shape.{volume-high}
 use Rattle.field_checks.proofs.Laws.{links-length}
-use Rattle.flux.proofs.Situations.{bad-densities, good-densities, bad-scratch, good-scratch}
+use Rattle.flux.proofs.Situations.{bad-per-density, good-per-density, bad-scratch, good-scratch}
 use Rattle.rows.proofs.Laws.{next-refuses, next-passes}
 use borrow.Author.Needs.{needs}
 use Rattle.flux.proofs.checks.size_row.Statement.{statement}
@@ -22,7 +22,7 @@ shape c = c .before .before .before .extents-row .ensures .accepted (c .before .
 
 -- the extents are right
 extents : (c : tie.Else2) → let q = c .before .before .before .before .args in firstRow (sizeRows (q .d) (q .n) (q .count) (q .links) (q .densities) (q .grid) (q .scratch))
-    ≡ firstRow ((badLinks (q .d) (q .links), 3) ∷ (badDensities (q .d) (q .count) (q .densities), 3) ∷ (badDensities (q .n) (q .count) (q .grid), 3) ∷ (badScratch (q .n) (q .count) (q .scratch), 3) ∷ [])
+    ≡ firstRow ((badLinks (q .d) (q .links), 3) ∷ (badPerDensity (q .d) (q .count) (q .densities), 3) ∷ (badPerDensity (q .n) (q .count) (q .grid), 3) ∷ (badScratch (q .n) (q .count) (q .scratch), 3) ∷ [])
 extents c = next-passes (c .before .grid-row .ensures) _ _ (first-passes (c .before .before .before .extents-row .ensures) _ refl (c .before .before .if1 .left)) refl (c .if2 .left)
 
 -- and so is the length of the list of links
@@ -30,7 +30,7 @@ long : (c : tie.Else3) → let q = c .before .before .before .before .before .be
 long c = sym (c .before .bad-links .ensures) ∙ c .if3 .left
 
 passed : (c : tie.Else3) → let q = c .before .before .before .before .before .before .args in firstRow (sizeRows (q .d) (q .n) (q .count) (q .links) (q .densities) (q .grid) (q .scratch))
-    ≡ firstRow ((badDensities (q .d) (q .count) (q .densities), 3) ∷ (badDensities (q .n) (q .count) (q .grid), 3) ∷ (badScratch (q .n) (q .count) (q .scratch), 3) ∷ [])
+    ≡ firstRow ((badPerDensity (q .d) (q .count) (q .densities), 3) ∷ (badPerDensity (q .n) (q .count) (q .grid), 3) ∷ (badScratch (q .n) (q .count) (q .scratch), 3) ∷ [])
 passed c = extents (c .before .before) ∙ row-passes 3 _ (long c)
 
 returns : tie.Need-returns
@@ -52,7 +52,7 @@ mul-if4 : tie.Need-mul-if4
 mul-if4 c = let high = volume-high _ (shape (c .before .before .before)) in rw (c .sites .ensures) (omega (arith, mul-le-mul (le-of-lt (c .before .before .before .before .before .before .before .fits .count .fits)) high))
 
 returns-4 : tie.Need-returns-4
-returns-4 c = refuses 2 (passed (c .before .before) ∙ row-holds 3 _ (bad-densities _ _ (rw (c .before .sites .ensures) at (c .if4 .taken))))
+returns-4 c = refuses 2 (passed (c .before .before) ∙ row-holds 3 _ (bad-per-density _ _ (rw (c .before .sites .ensures) at (c .if4 .taken))))
 
 cells-requires : tie.Need-cells-requires
 cells-requires c κs = c .before .before .before .before .before .grid-row .ensures .accepted (c .before .before .before .before .if2 .left)
@@ -64,8 +64,8 @@ returns-5 : tie.Need-returns-5
 returns-5 c =
     refuses 2
     (passed (c .before .before .before .before)
-    ∙ row-passes 3 _ (good-densities _ _ (rw (c .before .before .before .sites .ensures) at (c .before .before .if4 .left)))
-    ∙ row-holds 3 _ (bad-densities _ _ (rw (c .before .cells .ensures .0) at (c .if5 .taken))))
+    ∙ row-passes 3 _ (good-per-density _ _ (rw (c .before .before .before .sites .ensures) at (c .before .before .if4 .left)))
+    ∙ row-holds 3 _ (bad-per-density _ _ (rw (c .before .cells .ensures .0) at (c .if5 .taken))))
 
 mul-if6 : tie.Need-mul-if6
 mul-if6 c = omega (arith, mul-le-mul (le-of-lt (c .before .before .before .before .before .before .before .before .before .before .fits .count .fits)) (c .before .cells .ensures .1))
@@ -74,8 +74,8 @@ returns-6 : tie.Need-returns-6
 returns-6 c =
     refuses 2
     (passed (c .before .before .before .before .before)
-    ∙ row-passes 3 _ (good-densities _ _ (rw (c .before .before .before .before .sites .ensures) at (c .before .before .before .if4 .left)))
-    ∙ row-passes 3 _ (good-densities _ _ (rw (c .before .before .cells .ensures .0) at (c .before .if5 .left)))
+    ∙ row-passes 3 _ (good-per-density _ _ (rw (c .before .before .before .before .sites .ensures) at (c .before .before .before .if4 .left)))
+    ∙ row-passes 3 _ (good-per-density _ _ (rw (c .before .before .cells .ensures .0) at (c .before .if5 .left)))
     ∙ row-holds 3 _ (bad-scratch _ _ (rw (c .before .before .cells .ensures .0) at (c .if6 .taken))))
 
 returns-7 : tie.Need-returns-7
@@ -84,8 +84,8 @@ returns-7 c =
     let cells = rw (c .before .before .cells .ensures .0) at (c .before .if5 .left) in
     accepts
     (passed (c .before .before .before .before .before)
-    ∙ row-passes 3 _ (good-densities _ _ sites)
-    ∙ row-passes 3 _ (good-densities _ _ cells)
+    ∙ row-passes 3 _ (good-per-density _ _ sites)
+    ∙ row-passes 3 _ (good-per-density _ _ cells)
     ∙ row-passes 3 _ (good-scratch _ _ (rw (c .before .before .cells .ensures .0) at (c .if6 .left)))
     ∙ no-row)
     (record {

@@ -1,7 +1,7 @@
 use borrow.Author.Needs.{needs}
 use Rattle.flux.specs.Means.{meanLoop, meansOf}
-use Rattle.flux.proofs.means.product_of_means.Statement.{statement}
-use Rattle.flux.proofs.means.product_of_means.Tie as tie
+use Rattle.flux.proofs.product_of_means.Statement.{statement}
+use Rattle.flux.proofs.product_of_means.Tie as tie
 
 returns : tie.Need-returns
 unfolding meansOf meanLoop

@@ -4,8 +4,8 @@ use Rattle.rows.proofs.Laws.{no-row, row-holds, row-passes, refuses, accepts}
 use Rattle.stairs.proofs.Whole.{bad-time, good-time}
 use Rattle.flux.proofs.Situations.{no-count, high-count, good-count}
 use borrow.Author.Needs.{needs}
-use Rattle.flux.proofs.checks.own_row.Statement.{statement}
-use Rattle.flux.proofs.checks.own_row.Tie as tie
+use Rattle.flux.proofs.checks.parameters_row.Statement.{statement}
+use Rattle.flux.proofs.checks.parameters_row.Tie as tie
 
 returns : tie.Need-returns
 returns c = refuses 10 (row-holds 11 _ (sym (c .before .bad-quarks .ensures) ∙ c .if1 .taken))
@@ -28,5 +28,5 @@ returns-5 c =
     (row-passes 11 _ quarks ∙ row-passes 11 _ (good-time time) ∙ row-passes 13 _ (good-count some (c .if4 .left)) ∙ no-row)
     (record { quarks = quarks; time = time; some = omega arith; few = c .if4 .left })
 
-pub own-row-spec : {M : Type 1} → statement M
-own-row-spec = tie.close (tie.spec (λ c κs. search needs) returns returns-2 returns-3 returns-4 returns-5)
+pub parameters-row-spec : {M : Type 1} → statement M
+parameters-row-spec = tie.close (tie.spec (λ c κs. search needs) returns returns-2 returns-3 returns-4 returns-5)
