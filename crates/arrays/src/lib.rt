@@ -1,4 +1,6 @@
 // What a host hands over as numbers, and back.
+#![tactic(auto)]
+
 ghost use Rattle.std.specs.Prelude.{◌≡◌};
 ghost use Rattle.arrays.specs.Arrays.{matrix_in, block_in, quat_in, pair_numbers, matrix_numbers, plane_numbers, block_numbers, quat_numbers};
 

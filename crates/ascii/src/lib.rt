@@ -1,5 +1,7 @@
 // Text into a lent list of bytes: lines of a name, a space and a number. Each call answers the place
 // after what it put.
+#![tactic(auto)]
+
 ghost use Rattle.std.specs.Prelude.{◌+◌, ◌≤◌, true, ◌≡◌, length};
 ghost use Rattle.std.specs.Float.Ieee.Scale.{finite};
 ghost use Rattle.ascii.specs.Lines.{decimal_text, hex_text, number_text, text_line};

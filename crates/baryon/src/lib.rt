@@ -1,5 +1,7 @@
 // Staircases, paths, and the loop of three quarks: each call checks what it is handed by the rows of
 // its table, in order, and answers the row's number or what its definition says.
+#![tactic(auto)]
+
 mod by_ref;
 mod checks;
 mod quarks;
@@ -15,7 +17,7 @@ pub use stairs::Step;
 pub use walk::{path, path_codes, time_line};
 
 // A product of links and the site where it ends, and 0; or the row that refuses the call, and zeros.
-#[derive(Drop)]
+#[derive(Clone, Copy)]
 pub struct PathAnswer {
     pub refusal: u32,
     pub matrix: Su3,
@@ -24,7 +26,7 @@ pub struct PathAnswer {
 
 // A staircase on the way: the row that refuses the call or 0, how many steps there are, the place so
 // far, and the step that led there.
-#[derive(Drop)]
+#[derive(Clone, Copy)]
 pub struct Stair {
     pub row: u32,
     pub count: usize,
@@ -33,7 +35,7 @@ pub struct Stair {
 }
 
 // What a staircase answers, and its list.
-#[derive(Drop)]
+#[derive(Clone, Copy)]
 pub struct StairsAnswer {
     pub answer: Count,
     pub steps: [Step; 96],

@@ -1,5 +1,7 @@
 // Bounds on numbers by powers of two. specs/Claims.antt says what the operations make of a bound; the
 // test here gives the numbers of a list their first one.
+#![tactic(auto)]
+
 ghost use Rattle.std.specs.Prelude.{◌≡◌};
 ghost use Rattle.bounds.specs.Magnitude.{all_within_two};
 

@@ -1,5 +1,7 @@
 // The cabinet's program: four bytes on standard input are the extents t, x, y, z; the measurements on the
 // cold field go to standard output, a name and a value to a line.
+#![tactic(auto)]
+
 use libc::{STDIN_FILENO, STDOUT_FILENO};
 
 // Whether anything came.

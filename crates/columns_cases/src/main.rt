@@ -1,5 +1,7 @@
 // The program's text for each of many inputs, after the input itself: every one that is accepted, and
 // refused ones. How the stored lines were made is in docs/DECISIONS.md.
+#![tactic(auto)]
+
 
 // Four bytes t, x, y, z to a word: all extents with at most 64 sites, t fastest.
 const ACCEPTED: [u32; 19] = [

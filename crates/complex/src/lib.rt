@@ -1,18 +1,20 @@
 // Complex numbers and rows of three, by value: every operation rounds once, in the order that its
 // definition in specs/ has.
+#![tactic(auto)]
+
 mod number;
 mod row_vector;
 
 pub use number::minor;
 
-#[derive(Drop)]
+#[derive(Clone, Copy)]
 pub struct C64 {
     pub re: f64,
     pub im: f64,
 }
 
 // A row of a 3×3 matrix.
-#[derive(Drop)]
+#[derive(Clone, Copy)]
 pub struct Row {
     pub c0: C64,
     pub c1: C64,

@@ -5,7 +5,7 @@ ghost use Rattle.complex.specs.Rounded.{fzero, fone};
 use crate::C64;
 
 // The constants of `C64`.
-#[derive(Drop)]
+#[derive(Clone, Copy)]
 struct Units {
     zero: C64,
     one: C64,

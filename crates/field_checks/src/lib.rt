@@ -1,5 +1,7 @@
 // Whether a call on a field is refused: by what it is handed, or for a number of its answer that isn't
 // finite.
+#![tactic(auto)]
+
 mod answers;
 
 ghost use Rattle.std.specs.Prelude.{◌≡◌, ◌*◌, ◌<◌, ◌≤◌};

@@ -2,6 +2,8 @@
 // of its table, in order, and answers the row's number or what its definition says. The grid's numbers
 // and the scratch are lent; a refused call stores nothing, except that an addition that fails at row 10
 // leaves its scratch at +0.
+#![tactic(auto)]
+
 mod addition;
 mod checks;
 mod means;
@@ -14,7 +16,7 @@ use sums::mean;
 
 // Sums over the fields added so far: n are the grid's extents x, y, z, offsets those of three quarks, x, y, z
 // each, and t_len the loops' time length. Of the sums s the first count are in use.
-#[derive(Drop)]
+#[derive(Clone, Copy)]
 pub struct FluxAccumulator {
     pub n: [usize; 3],
     pub offsets: [i32; 9],
@@ -27,7 +29,7 @@ pub struct FluxAccumulator {
 
 // An accumulator, and 0; or the row that refuses the call, and the accumulator as it was handed in, or zeros
 // where none was.
-#[derive(Drop)]
+#[derive(Clone, Copy)]
 pub struct FluxAnswer {
     pub refusal: u32,
     pub acc: FluxAccumulator,

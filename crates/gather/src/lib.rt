@@ -1,5 +1,7 @@
 // The loop over a field's slices of equal time, for an accumulator: the loops of three quarks at each site,
 // their sum, and the sums of their products with the densities. What is asked for a caller has checked.
+#![tactic(auto)]
+
 ghost use Rattle.std.specs.Prelude.{◌≡◌, ◌+◌, ◌*◌, get_or};
 ghost use Rattle.folds.specs.Folds.{fill};
 ghost use Rattle.gauge.specs.Field.{link_of};

@@ -7,7 +7,7 @@ use complex::C64;
 use mat::Su3;
 
 // Two complex numbers side by side, which is what vector registers of two f64 are for.
-#[derive(Drop)]
+#[derive(Clone, Copy)]
 pub struct Pair {
     pub re0: f64,
     pub re1: f64,
@@ -17,7 +17,7 @@ pub struct Pair {
 
 // A matrix with its entries in pairs: a pair for each column of the first two rows, then the third row.
 // The compiler works out in such pairs what is added to it.
-#[derive(Drop)]
+#[derive(Clone, Copy)]
 pub struct Paired {
     pub c0: Pair,
     pub c1: Pair,

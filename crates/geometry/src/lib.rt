@@ -1,4 +1,6 @@
 // Sites, their coordinates and parity. The extents d are those of t, x, y and z.
+#![tactic(auto)]
+
 ghost use Rattle.std.specs.Prelude.{◌≡◌, ◌<◌};
 ghost use Rattle.geometry.specs.Radix.{volume, coords_of, index_of, Within};
 ghost use Rattle.geometry.specs.Shape.{Shape, extent_test, fits_of};
@@ -6,14 +8,14 @@ ghost use Rattle.geometry.specs.Steps.{parity_of};
 ghost use Rattle.geometry.specs.Order.{half_of, nth_of};
 
 // The sites next to a site, up and down each axis.
-#[derive(Drop)]
+#[derive(Clone, Copy)]
 pub struct Neighbours {
     pub up: [usize; 4],
     pub down: [usize; 4],
 }
 
 // A site and its coordinates t, x, y, z.
-#[derive(Drop)]
+#[derive(Clone, Copy)]
 pub struct Spot {
     pub site: usize,
     pub at: [usize; 4],

@@ -1,5 +1,7 @@
 // A gauge field in a lent list: each call checks what it is handed by the rows of its table, in
 // order, and answers the row's number or what its definition says.
+#![tactic(auto)]
+
 mod check;
 mod cold_start;
 mod observables;
@@ -11,7 +13,7 @@ pub use observables::{action, average_plaquette, plaquette, polyakov_loop, stapl
 pub use sites::{bwd, coords, fwd, index, n_sites, parity};
 
 // The scope's plan: extents t, x, y, z, coupling, and what keys the random streams.
-#[derive(Drop)]
+#[derive(Clone, Copy)]
 pub struct Plan {
     pub extents: [usize; 4],
     pub coupling: f64,
@@ -20,21 +22,21 @@ pub struct Plan {
 }
 
 // A new plan, and 0; or the row that refuses the call, and zeros.
-#[derive(Drop)]
+#[derive(Clone, Copy)]
 pub struct ColdAnswer {
     pub refusal: u32,
     pub plan: Plan,
 }
 
 // Coordinates t, x, y, z, and 0; or the row that refuses the call, and zeros.
-#[derive(Drop)]
+#[derive(Clone, Copy)]
 pub struct CoordsAnswer {
     pub refusal: u32,
     pub coords: [usize; 4],
 }
 
 // A complex number, and 0; or the row that refuses the call, and zeros.
-#[derive(Drop)]
+#[derive(Clone, Copy)]
 pub struct PolyakovAnswer {
     pub refusal: u32,
     pub re: f64,

@@ -1,5 +1,7 @@
 // The matrices of a lent list of numbers: every read and every store of a link goes through here. `place`
 // has where the link of a direction at a site begins; links follow each other by eighteen numbers.
+#![tactic(auto)]
+
 ghost use Rattle.std.specs.Prelude.{◌≡◌, ◌+◌, ◌<◌, ◌≤◌, length};
 ghost use Rattle.links.specs.Store.{cell_at, put_cell, matrix_at, with_matrix};
 ghost use Rattle.links.specs.Field.{place_of, field_of, Stored};

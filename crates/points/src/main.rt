@@ -1,5 +1,7 @@
 // The published vectors of the generators, and the worked examples that no theorem covers: each is
 // run, printed beside a label, and compared. Standard output is held to the stored one as well.
+#![tactic(auto)]
+
 mod lines;
 mod overrelaxation;
 mod paths;
@@ -40,7 +42,7 @@ const XOSHIRO_1234: [u64; 10] = [
 ];
 
 // What has been compared so far, and how much of it differed.
-#[derive(Drop)]
+#[derive(Clone, Copy)]
 struct Tally {
     compared: u32,
     differ: u32,

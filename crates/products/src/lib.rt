@@ -1,4 +1,6 @@
 // Products of matrices of a lent list where they stand: a matrix that is loaded first is copied.
+#![tactic(auto)]
+
 ghost use Rattle.std.specs.Prelude.{◌≡◌, ◌+◌, ◌<◌, ◌≤◌, length};
 ghost use Rattle.mat.specs.Matrix.{dagger_of, trace_of};
 ghost use Rattle.mat.specs.Product.{row_col, row_row, col_col, mul_of, mul_dag_of, dag_mul_of};

@@ -1,5 +1,7 @@
 // Quaternions, complex 2×2 matrices and the SU(2) subgroups of SU(3), by value: every operation rounds
 // once, in the order that its definition in specs/ has.
+#![tactic(auto)]
+
 mod quaternion;
 mod subgroups;
 
@@ -7,7 +9,7 @@ use complex::C64;
 pub use subgroups::{SUBGROUPS, left_mul_sub, sub_block};
 
 // A complex 2×2 matrix.
-#[derive(Drop)]
+#[derive(Clone, Copy)]
 pub struct Mat2 {
     pub m00: C64,
     pub m01: C64,
@@ -17,7 +19,7 @@ pub struct Mat2 {
 
 // `a0 + i(a1 σ1 + a2 σ2 + a3 σ3)`, which is the matrix `[[a0 + i a3, a2 + i a1], [−a2 + i a1, a0 − i a3]]`:
 // in SU(2) where its norm is 1.
-#[derive(Drop)]
+#[derive(Clone, Copy)]
 pub struct Quat {
     pub a0: f64,
     pub a1: f64,
@@ -26,14 +28,14 @@ pub struct Quat {
 }
 
 // The rows, and columns, i < j of a 3×3 matrix that an SU(2) subgroup acts on.
-#[derive(Drop)]
+#[derive(Clone, Copy)]
 pub struct Subgroup {
     pub i: usize,
     pub j: usize,
 }
 
 // A 2×2 block, and 0; or the row that refuses the call, and zeros.
-#[derive(Drop)]
+#[derive(Clone, Copy)]
 pub struct BlockAnswer {
     pub refusal: u32,
     pub block: Mat2,

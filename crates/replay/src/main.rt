@@ -1,6 +1,8 @@
 // The inputs that compare/ gives the unchanged Rust, made again, and a line for each answer of this
 // project's calls to them, or for a hash of many. The Rust printed the stored output, so these calls
 // are held to a sample of its answers, and no Rust is needed. compare/src/sample.rs has the lines.
+#![tactic(auto)]
+
 fn main() {
     replay_lines::all_lines();
     replay_fields::all_lines();

@@ -1,4 +1,6 @@
 // The lines of replay on staircases, paths, loops and accumulators. compare/src/sample/baryon.rs has them.
+#![tactic(auto)]
+
 mod accumulators;
 mod staircases;
 mod walks;

@@ -1,4 +1,6 @@
 // The lines of replay on complex numbers, matrices, sites, fields and sweeps.
+#![tactic(auto)]
+
 mod arithmetic;
 mod complex_lines;
 pub mod field_lines;

@@ -1,5 +1,7 @@
 // xoshiro256++ of Blackman and Vigna, seeded through splitmix64: one stream for each seed, pass,
 // direction and site.
+#![tactic(auto)]
+
 ghost use Rattle.std.specs.Prelude.{◌≡◌};
 ghost use Rattle.rng.specs.Splitmix.{splitmix_of};
 ghost use Rattle.rng.specs.Stream.{stream_of};
@@ -7,7 +9,7 @@ ghost use Rattle.rng.specs.Uniform.{uniform_draw_of, uniform_of};
 ghost use Rattle.rng.specs.Xoshiro.{draw_of};
 
 // A state of splitmix64, and the word that the step to it gave.
-#[derive(Drop)]
+#[derive(Clone, Copy)]
 pub struct Mixed {
     pub state: u64,
     pub out: u64,
@@ -25,20 +27,20 @@ pub fn splitmix(x: u64) -> Mixed
     }
 }
 
-#[derive(Drop)]
+#[derive(Clone, Copy)]
 pub struct Rng {
     pub s: [u64; 4],
 }
 
 // A word drawn, and the generator after it.
-#[derive(Drop)]
+#[derive(Clone, Copy)]
 pub struct Draw {
     pub value: u64,
     pub rng: Rng,
 }
 
 // A uniform number drawn, and the generator after it.
-#[derive(Drop)]
+#[derive(Clone, Copy)]
 pub struct Uniform {
     pub value: f64,
     pub rng: Rng,

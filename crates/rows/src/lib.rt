@@ -1,24 +1,26 @@
 // Answers that are a number or a refusal. A row is one of the scope's table of refusals, by its number.
+#![tactic(auto)]
+
 ghost use Rattle.std.specs.Prelude.{◌≡◌};
 ghost use Rattle.std.specs.Float.Ieee.Scale.{finite};
 ghost use Rattle.rows.specs.Answers.{count_refusal, count_value, number_refusal, number_value};
 
 // A number, or the row that refuses the call.
-#[derive(Drop)]
+#[derive(Clone, Copy)]
 pub enum Number {
     Value(f64),
     Refused(u32),
 }
 
 // A count or a site, or the row that refuses the call.
-#[derive(Drop)]
+#[derive(Clone, Copy)]
 pub enum Count {
     Value(usize),
     Refused(u32),
 }
 
 // Whether a list was filled: 0, or the row that refuses the call, which leaves the list as it was.
-#[derive(Drop)]
+#[derive(Clone, Copy)]
 pub struct ListAnswer {
     pub refusal: u32,
 }

@@ -12,7 +12,7 @@ pub fn pattern(x: f64) -> u64 {
 }
 
 // FNV-1a, 64 bits, over words, the eight bytes of each from the lowest.
-#[derive(Drop)]
+#[derive(Clone, Copy)]
 pub struct Fnv {
     pub state: u64,
 }

@@ -6,14 +6,14 @@ use rng::Rng;
 pub const SEED: u64 = 20261115;
 
 // A number is 2u - 1 for a uniform u, or one of +0, -0, 1, -1.
-#[derive(Drop)]
+#[derive(Clone, Copy)]
 pub enum Set {
     Raw,
     Units,
 }
 
 // What the links of a field are.
-#[derive(Drop)]
+#[derive(Clone, Copy)]
 pub enum Kind {
     Cold,
     Raw,
@@ -25,21 +25,21 @@ pub enum Kind {
 }
 
 // A number drawn, and the generator after it.
-#[derive(Drop)]
+#[derive(Clone, Copy)]
 struct DrawnNumber {
     value: f64,
     rng: Rng,
 }
 
 // A matrix drawn, and the generator after it.
-#[derive(Drop)]
+#[derive(Clone, Copy)]
 struct DrawnMatrix {
     value: Su3,
     rng: Rng,
 }
 
 // What the calls on matrices take.
-#[derive(Drop)]
+#[derive(Clone, Copy)]
 pub struct Pair {
     pub a: Su3,
     pub b: Su3,

@@ -1,5 +1,7 @@
 // What replay makes and prints: the inputs that compare/ gives the unchanged Rust, made again, and
 // the hashes and words of its lines.
+#![tactic(auto)]
+
 pub mod hash;
 pub mod inputs;
 pub mod print;

@@ -1,4 +1,6 @@
 // The link check, on a field that fits.
+#![tactic(auto)]
+
 ghost use Rattle.std.specs.Prelude.{◌≡◌, ◌+◌, ◌*◌, ◌≤◌, length};
 ghost use Rattle.geometry.specs.Radix.{volume};
 ghost use Rattle.links.specs.Store.{matrix_at};

@@ -1,4 +1,6 @@
 // Steps from site to site: along an axis, to all neighbours, to the next number.
+#![tactic(auto)]
+
 ghost use Rattle.std.specs.Prelude.{◌≡◌, ◌+◌, ◌-◌, ◌%◌, ◌<◌};
 ghost use Rattle.geometry.specs.Radix.{volume, coords_of, next_coords, Within};
 ghost use Rattle.geometry.specs.Shape.{Shape};

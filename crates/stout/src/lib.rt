@@ -1,5 +1,7 @@
 // Stout smearing of one link of a field that fits: the list holds a field of extents d, and site and
 // direction are in range.
+#![tactic(auto)]
+
 ghost use Rattle.std.specs.Prelude.{◌≡◌};
 ghost use Rattle.gauge.specs.Field.{link_of, Link};
 ghost use Rattle.stout.specs.Stout.{stout_of};

@@ -1,5 +1,7 @@
 // An accumulator's sums: more samples, the test that all sums are finite before they are stored, and means
 // over the samples. What is asked for (lists that fit) a caller has checked.
+#![tactic(auto)]
+
 mod ending;
 mod means;
 

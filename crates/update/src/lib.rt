@@ -1,4 +1,6 @@
 // The update of one link, by overrelaxation: of a link and its staples' sum, and of a field that fits.
+#![tactic(auto)]
+
 ghost use Rattle.std.specs.Prelude.{◌≡◌, [], ◌∷◌};
 ghost use Rattle.complex.specs.declared.C64.{C64};
 ghost use Rattle.mat.specs.declared.Su3.{Su3};
@@ -13,7 +15,7 @@ use mat::Su3;
 use quat::{Mat2, Quat};
 
 // Whether a link is stuck, as the scope says, and why: it then has no update.
-#[derive(Drop)]
+#[derive(Clone, Copy)]
 pub enum Stuck {
     No,
     ShortNorm,
@@ -21,7 +23,7 @@ pub enum Stuck {
 }
 
 // The update of a link; zeros where it is stuck.
-#[derive(Drop)]
+#[derive(Clone, Copy)]
 pub struct Updated {
     pub stuck: Stuck,
     pub link: Su3,

@@ -1,5 +1,7 @@
 // Visits of sites: the links of one direction there are updated where they stand. The caller has checked what
 // `requires` asks.
+#![tactic(auto)]
+
 ghost use Rattle.gauge.specs.Field.{Link};
 ghost use Rattle.visits.specs.Advance.{Visited, Segment, Advanced};
 

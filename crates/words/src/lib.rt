@@ -1,4 +1,6 @@
 // Operations on 64-bit words that the language lacks: the wrapping product and the rotation.
+#![tactic(auto)]
+
 ghost use Rattle.std.specs.Prelude.{◌≡◌, ◌*◌, ◌%◌, ◌^◌};
 ghost use Rattle.words.specs.Words.{rotl};
 
