@@ -8,9 +8,7 @@ use borrow.Author.Tests.{not-true, not-false}
 use Rattle.folds.proofs.Laws.{all_none, all_next, all_done, all_fails}
 use Rattle.geometry.specs.Shape.{extent_test, fits_of}
 use Rattle.geometry.proofs.fits.Goals as goal
-
-abbrev test : List ℕ → ℕ → Bool
-test d mu = extent_test (get_or d mu 0)
+use Rattle.geometry.proofs.fits.Invariants.{test}
 
 pub loop-mu-init : goal.loop-mu-init
 loop-mu-init c = (omega arith, all_none (test c.args.d))
@@ -19,12 +17,12 @@ pub returns-then-not-extent_fits : goal.returns-then-not-extent_fits
 unfolding fits_of
 returns-then-not-extent_fits c =
     sym (all_fails (test c.args.d) 4 c.loop-mu.mu c.loop-mu-test.true
-    (sym c.extent_fits.ensures ∙ not-true _ c.if-not-extent_fits.true))
+    (sym c.extent_fits.ensures ∙ c.if-not-extent_fits.true))
 
 pub loop-mu-preserved : goal.loop-mu-preserved
 loop-mu-preserved c =
     let d = c.args.d in
-    (omega arith, all_next (test d) c.loop-mu.mu c.loop-mu.invariant.1 (sym c.extent_fits.ensures ∙ not-false _ c.if-not-extent_fits.false))
+    (omega arith, all_next (test d) c.loop-mu.mu c.loop-mu.invariant.1 (sym c.extent_fits.ensures ∙ c.if-not-extent_fits.false))
 
 pub returns : goal.returns
 unfolding fits_of
