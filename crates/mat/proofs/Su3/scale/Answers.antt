@@ -1,0 +1,16 @@
+use Prim.Native.Nat.{◌-◌}
+use native.Mathlib.Omega.{arith}
+use Rattle.mat.specs.Matrix.{scale_of}
+use Rattle.mat.proofs.Laws.{fill_each}
+use Rattle.folds.proofs.Laws.{fill_none, fill_next}
+use Rattle.mat.proofs.Su3.scale.Goals as goal
+
+pub loop-k-init : goal.loop-k-init
+loop-k-init c = (omega arith, fill_none _ _)
+
+pub loop-k-preserved : goal.loop-k-preserved
+loop-k-preserved c = (omega arith, fill_next _ _ _ c.loop-k.invariant.1 c.scale.ensures)
+
+pub returns : goal.returns
+unfolding scale_of
+returns c = fill_each _ c.loop-k.k (omega arith) c.loop-k.invariant.1
