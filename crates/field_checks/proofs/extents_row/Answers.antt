@@ -10,13 +10,13 @@ use Rattle.field_checks.proofs.extents_row.Goals as goal
 use Rattle.field_checks.proofs.extents_row.Goals.{Else-not-fits}
 
 fit : (c : Else-not-fits) → fits_of c.args.d ≡ true
-fit c = sym c.fits2 ∙ not-false _ c.if-not-fits.false
+fit c = sym c.fits.ensures ∙ c.if-not-fits.false
 
 shape : (c : Else-not-fits) → Shape c.args.d
 shape c = fits_shape _ (search rules) (fit c)
 
 pub returns-then-not-fits : goal.returns-then-not-fits
-returns-then-not-fits c = refuses 0 (row_holds 1 _ (bad_extents_lem _ (sym c.fits2 ∙ c.if-not-fits.true)))
+returns-then-not-fits c = refuses 0 (row_holds 1 _ (bad_extents_lem _ (sym c.fits.ensures ∙ c.if-not-fits.true)))
 
 pub returns : goal.returns
 returns c =

@@ -15,11 +15,11 @@ pub bad_links-requires : goal.bad_links-requires
 bad_links-requires c = shape c
 
 pub returns-then-bad_links : goal.returns-then-bad_links
-returns-then-bad_links c = refuses 2 (first_passes c.extents_row-row.ensures _ refl c.if-row-ne0.false ∙ row_holds 3 _ (sym c.bad_links_lem ∙ c.if-bad_links.true))
+returns-then-bad_links c = refuses 2 (first_passes c.extents_row-row.ensures _ refl c.if-row-ne0.false ∙ row_holds 3 _ (sym c.bad_links.ensures ∙ c.if-bad_links.true))
 
 pub returns : goal.returns
 returns c =
-    let good = sym c.bad_links_lem ∙ c.if-bad_links.false in
+    let good = sym c.bad_links.ensures ∙ c.if-bad_links.false in
     accepts
     (first_passes c.extents_row-row.ensures _ refl c.if-row-ne0.false ∙ row_passes 3 _ good ∙ no_row)
     (shape (goal.at.returns c).Else-row-ne0, links_length _ good)

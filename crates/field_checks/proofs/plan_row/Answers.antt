@@ -21,12 +21,12 @@ pub returns-then-bad_links : goal.returns-then-bad_links
 returns-then-bad_links c =
     let good = sym c.bad_coupling.ensures ∙ c.if-bad_coupling.false in
     refuses 2
-    (first_passes c.extents_row-row.ensures _ refl c.if-row-ne0.false ∙ row_passes 2 _ good ∙ row_holds 3 _ (sym c.bad_links_lem ∙ c.if-bad_links.true))
+    (first_passes c.extents_row-row.ensures _ refl c.if-row-ne0.false ∙ row_passes 2 _ good ∙ row_holds 3 _ (sym c.bad_links.ensures ∙ c.if-bad_links.true))
 
 pub returns : goal.returns
 returns c =
     let good = sym c.bad_coupling.ensures ∙ c.if-bad_coupling.false in
-    let long = sym c.bad_links_lem ∙ c.if-bad_links.false in
+    let long = sym c.bad_links.ensures ∙ c.if-bad_links.false in
     accepts
     (first_passes c.extents_row-row.ensures _ refl c.if-row-ne0.false ∙ row_passes 2 _ good ∙ row_passes 3 _ long ∙ no_row)
     (shape (goal.at.returns c).Else-row-ne0, links_length _ long)
