@@ -12,13 +12,13 @@ use Rattle.sound.proofs.list_unsound.Goals.{Then-not-sound}
 use Rattle.sound.proofs.list_unsound.Invariants.{sound_at}
 
 -- there is room for one more: no more were found than looked at
-room : (c : Then-not-sound invariant-loop decreases-loop) → (c.before.before.before.loop.count ≤ c.before.before.before.loop.k) × (c.before.before.before.loop.count < length c.before.before.before.loop.found)
+room : (c : Then-not-sound) → (c.loop-k.count ≤ c.loop-k.k) × (c.loop-k.count < length c.loop-k.found)
 room c =
-    let i = c.before.before.before.loop.invariant in
-    let few = rw (← i.2.count) at (failing_few (sound_at c.before.before.before.before.sites.result c.before.before.before.before.before.before.before.args.links.now) c.before.before.before.loop.k) in
-    let e = c.before.before.before.before.sites.ensures in
-    let t = c.before.before.loop-test.true in
-    let q = c.before.before.before.before.before.before.before.requires.1 in
+    let i = c.loop-k.invariant in
+    let few = rw (← i.2.count) at (failing_few (sound_at c.sites-v.result c.args.links.now) c.loop-k.k) in
+    let e = c.sites-v.ensures in
+    let t = c.loop-k-test.true in
+    let q = c.requires.1 in
     (few, omega (arith, few, i.1))
 
 pub sites-v-requires : goal.sites-v-requires

@@ -9,7 +9,7 @@ use Rattle.sound.specs.Sound.{sound_of}
 use Rattle.sound.proofs.Unsound.{Written}
 use Rattle.sound.proofs.list_unsound.Given as goal
 
-pub sound_at : ℕ → List Float → ℕ → Bool
+unfoldable pub sound_at : ℕ → List Float → ℕ → Bool
 sound_at v l k = sound_of (field_of v l (k / v) (k % v))
 
 abbrev pub invariant-loop-k : goal.invariant-loop-k
