@@ -8,7 +8,7 @@ use Rattle.geometry.proofs.Shape.{volume_high}
 use Rattle.sound.specs.Sound.{sound_link, unsound_links}
 use Rattle.sound.proofs.Unsound.{failing_few, Written, written_none, written_skip, written_next, written_done, link_at}
 use Rattle.sound.proofs.list_unsound.Goals as goal
-use Rattle.sound.proofs.list_unsound.Goals.{Then-not-sound}
+use Rattle.sound.proofs.list_unsound.Goals.{Then-not-sound, then-not-sound, else-not-sound}
 use Rattle.sound.proofs.list_unsound.Invariants.{sound_at}
 
 -- there is room for one more: no more were found than looked at
@@ -69,10 +69,9 @@ loop-k-preserved c =
     let room : count < length old = let e = c.sites-v.ensures in let q = c.requires.1 in omega (arith, few) in
     let checked : c.sound.result ≡ test k = rw (link_at v k) c.sound.ensures in
     let both : (length c.if-not-sound.found ≡ length old) × Written test old (k + 1) c.if-not-sound.count c.if-not-sound.found =
-    ⊎_elim
-    (λ w. rw (w.1, w.2) (length-set found count k ∙ i.1, written_next test old k count found i.2 (sym checked ∙ not-true _ w.0.taken) room))
-    (λ w. rw (w.1, w.2) (i.1, written_skip test old k count found i.2 (sym checked ∙ not-false _ w.0.left)))
-    c.if-not-sound.branch in
+        elim c.if-not-sound.branch
+        [ then-not-sound w ↦ rw (w.count-is, w.found-is) (length-set found count k ∙ i.1, written_next test old k count found i.2 (sym checked ∙ w.if-not-sound.true) room)
+        | else-not-sound w ↦ rw (w.count-is, w.found-is) (i.1, written_skip test old k count found i.2 (sym checked ∙ w.if-not-sound.false)) ] in
     (omega arith, both.0, both.1)
 
 pub shape_of-found : goal.shape_of-found

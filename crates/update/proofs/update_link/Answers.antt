@@ -9,4 +9,4 @@ pub returns : goal.returns
 unfolding rows_of
 returns c =
     let nine : length c.args.u.m ≡ 9 = sym (length-map c.args.u.m the_type.to) ∙ search c.well_formed in
-    rw (c.from_First, c.rows-u.ensures, c.rows-w.ensures) (by_rows _ _ nine c.mul.ensures)
+    rw (c.from_first, c.rows-u.ensures, c.rows-w.ensures) (by_rows _ _ nine c.mul.ensures)

@@ -6,6 +6,7 @@ use mathlib.Core.Path.{◌≡◌, refl}
 use lib.ListN.{length, get_or}
 use Rattle.stairs.specs.Staircase.{no_step}
 use Rattle.paths.proofs.transport.path.Goals as goal
+use Rattle.paths.proofs.transport.path.Goals.{then-step, else-step}
 
 pub loop-i-init : goal.loop-i-init
 loop-i-init c = (omega arith, path_none _ _ c.args.along.steps c.requires.0.spot, c.requires.0)
@@ -40,20 +41,19 @@ loop-i-preserved c =
     let inside : i < length steps = omega arith in
     let axis : (get_or steps i no_step).axis < 4 = c.requires.1.axes i (omega arith) in
     let last = sites_last _ _ _ _ c.requires.0 in
-    ⊎_elim
-    (λ w.
-    let m = rw (w.1.ensures, last) at w.2.ensures in (
-      omega arith,
-      rw (w.4, w.5) (forward_next _ _ _ steps i inside inv.1 refl w.0.taken m w.3.ensures),
-      rw w.5 (from_up _ _ _ _ inv.2 _ axis w.3.ensures),
-    ))
-    (λ w.
-    let m = rw (w.2.ensures, last) at w.3.ensures in (
-      omega arith,
-      rw (w.4, w.5) (backward_next _ _ _ steps i inside inv.1 refl w.0.left w.1.ensures m),
-      rw w.5 (from_down _ _ _ _ inv.2 _ axis w.1.ensures),
-    ))
-    c.if-step.branch
+    elim c.if-step.branch
+    [ then-step w ↦
+        let m = rw (w.link.ensures, last) at w.mul-u.ensures in (
+          omega arith,
+          rw (w.u-is, w.p-is) (forward_next _ _ _ steps i inside inv.1 refl w.if-step.true m w.up-p.ensures),
+          rw w.p-is (from_up _ _ _ _ inv.2 _ axis w.up-p.ensures),
+        )
+    | else-step w ↦
+        let m = rw (w.link-else-step.ensures, last) at w.mul_dag-u.ensures in (
+          omega arith,
+          rw (w.u-is, w.p-is) (backward_next _ _ _ steps i inside inv.1 refl w.if-step.false w.down-p.ensures m),
+          rw w.p-is (from_down _ _ _ _ inv.2 _ axis w.down-p.ensures),
+        ) ]
 
 pub returns : goal.returns
 returns c = let e : c.loop-i.i ≡ c.args.along.count = omega arith in path_done _ _ _ _ e c.loop-i.invariant.1
