@@ -2,7 +2,7 @@
 use Rattle.std.specs.Prelude.{ℕ, true, cond, length, take, drop}
 use Rattle.std.proofs.Math.Bool.{Bool-discrete}
 use mathlib.Core.List.{List, dec_mem, filter}
-use Rattle.std.proofs.Math.Logic.{ite, Dec·and}
+use Rattle.std.proofs.Math.Logic.{ite, Dec.and}
 use Rattle.std.proofs.Math.Decide.{ℕ_discrete}
 use Rattle.mat.specs.declared.Su3.{Su3}
 use Rattle.geometry.specs.Order.{sites_of}
@@ -19,7 +19,7 @@ module _ (update : Field → ℕ → Updated) where
   -- the field after visits of the links of direction μ at these sites
   unfoldable pub visited_field : ℕ → Field → List ℕ → Field
   visited_field mu U sites nu n =
-      ite (Dec·and (ℕ_discrete nu mu) (dec_mem ℕ_discrete n sites)) (visited_link (update U n) (U nu n)) (U nu n)
+      ite (Dec.and (ℕ_discrete nu mu) (dec_mem ℕ_discrete n sites)) (visited_link (update U n) (U nu n)) (U nu n)
 
   -- which of these sites have a stuck link in U, and how many
   abbrev pub stuck_sites : Field → List ℕ → List ℕ
