@@ -2,7 +2,8 @@
 use Rattle.std.specs.Prelude.{ℕ, true, cond, length, take, drop}
 use Rattle.std.proofs.Math.Bool.{Bool-discrete}
 use mathlib.Core.List.{List, dec_mem, filter}
-use Rattle.std.proofs.Math.Logic.{ite, Dec.and}
+use Rattle.std.proofs.Math.Logic.{ite}
+use Rattle.std.proofs.Math.Logic.Dec
 use Rattle.std.proofs.Math.Decide.{ℕ_discrete}
 use Rattle.mat.specs.declared.Su3.{Su3}
 use Rattle.geometry.specs.Order.{sites_of}

@@ -10,7 +10,7 @@ use Rattle.gauge.specs.Field.{link_of}
 use Rattle.visits.specs.Visits.{stuck_among, stuck_count}
 use Rattle.visits.proofs.Joined.{visits_none, visits_next, count_next, one_stuck, one_free}
 use Rattle.visits.proofs.advance.Goals as goal
-use Rattle.visits.proofs.advance.Goals.{In-loop-k, Joined-visit}
+use Rattle.visits.proofs.advance.Goals.{In-loop-k, Joined-visit, then-visit, else-visit}
 
 -- within the loop
 goes_on : (c : In-loop-k) → c.loop-k.k < c.args.count
@@ -24,9 +24,12 @@ carry a b x s t e f g = omega arith
 
 -- how the count went on
 counted : (c : Joined-visit)
-    → (c.if-is_stuck.stuck ≡ c.loop-k.stuck + stuck_count c.args.d c.args.mu (link_of c.args.d c.loop-k.links) (c.nth.result ∷ []))
-    × (c.if-is_stuck.stuck ≤ c.loop-k.stuck + 1)
-counted c = ?
+    → (c.if-visit.stuck ≡ c.loop-k.stuck + stuck_count c.args.d c.args.mu (link_of c.args.d c.loop-k.links) (c.nth.result ∷ []))
+    × (c.if-visit.stuck ≤ c.loop-k.stuck + 1)
+counted c =
+    elim c.if-visit.branch
+    [ then-visit w ↦ let s = one_stuck _ _ _ _ (sym c.visit.ensures.stuck ∙ w.if-visit.true) in (rw s w.stuck-is, omega (arith, w.stuck-is))
+    | else-visit w ↦ let s = one_free _ _ _ _ (sym c.visit.ensures.stuck ∙ w.if-visit.false) in (rw s (w.stuck-is ∙ sym (add-zero _)), omega (arith, w.stuck-is)) ]
 
 pub loop-k-init : goal.loop-k-init
 unfolding stuck_among
