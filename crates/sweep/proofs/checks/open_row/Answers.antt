@@ -12,8 +12,8 @@ use Rattle.sweep.proofs.Laws.{bad_parity_lem, good_parity, bad_pass_lem, good_pa
 use Rattle.sweep.proofs.checks.open_row.Goals as goal
 use Rattle.sweep.proofs.checks.open_row.Goals.{Else-parity-gt1, Else-row-ne0}
 
-passes : (c : Else-row-ne0) (more : List (Bool × ℕ)) → first_row ((bad_extents c.before.before.before.args.plan.extents, 1) ∷ more) ≡ first_row more
-passes c more = first_passes c.before.extents-row.ensures more refl c.if1.false
+passes : (c : Else-row-ne0) (more : List (Bool × ℕ)) → first_row ((bad_extents c.args.plan.extents, 1) ∷ more) ≡ first_row more
+passes c more = first_passes c.extents_row-row.ensures more refl c.if-row-ne0.false
 
 even_or_odd : (c : Else-parity-gt1) → bad_parity c.args.parity ≡ false
 even_or_odd c = good_parity c.if-parity-gt1.false
