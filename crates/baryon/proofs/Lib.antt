@@ -2,5 +2,4 @@ pub mod Laws
 pub mod Paths
 pub mod Places
 pub mod Bytes
-pub mod Values
 pub mod StaircaseTurn
