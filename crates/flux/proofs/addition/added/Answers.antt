@@ -38,7 +38,7 @@ returns c =
     record {
       sums = rw (c.with_sums.ensures, c.sites.ensures, gathered.ensures.loops, c.density_sums-s.ensures);
       cells =
-          ap (λ (n : ℕ). drop n gathered.new.0) (half f)
+          ap (λ (n : ℕ). drop n gathered.new.scratch) (half f)
           ∙ gathered.ensures.grid
           ∙ ap (grid_of q.extents (loop_at x) q.densities.now q.acc.t_len q.count) before;
     }

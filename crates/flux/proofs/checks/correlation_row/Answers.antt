@@ -31,7 +31,6 @@ cells-v-requires c = c.grid_row-row.ensures.accepted c.if-row-ne0.false
 
 pub overflow_mul-acc : goal.overflow_mul-acc
 overflow_mul-acc c =
-    let known = c.struct_known-1.given in
     let narrow : c.args.acc.count < 4294967296 = search rules in
     omega (arith, mul-le-mul (le_of_lt narrow) c.cells-v.ensures.1)
 
