@@ -2,12 +2,13 @@
 // cold field go to standard output, a name and a value to a line.
 #![tactic(auto)]
 
-use libc::{STDIN_FILENO, STDOUT_FILENO};
+const STDIN: i32 = 0;
+const STDOUT: i32 = 1;
 
 // Whether anything came.
 fn skip_some() -> bool {
     let mut rest = io::buffer();
-    io::read_full(STDIN_FILENO, &mut rest) > 0
+    io::read_full(STDIN, &mut rest) > 0
 }
 
 // Of an input longer than the buffer the rest is read too, so that who writes it does not find it
@@ -21,9 +22,9 @@ fn skip_rest() {
 
 fn main() {
     let mut input = io::buffer();
-    let n = io::read_full(STDIN_FILENO, &mut input);
+    let n = io::read_full(STDIN, &mut input);
     skip_rest();
     let mut text = [0u8; 320];
     let k = measurements::columns(&input[..n], &mut text);
-    io::write_all(STDOUT_FILENO, &text[..k]);
+    io::write_all(STDOUT, &text[..k]);
 }

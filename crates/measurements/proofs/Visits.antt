@@ -26,7 +26,7 @@ use Rattle.update.specs.declared.Updated.{Updated}
 use Rattle.update.specs.Update.{is_stuck, quat_over, reflection_of, is_short, short_norm, if_finite, through_subgroups, update_link_of, update_of}
 use Rattle.update.proofs.UpdateLaws.{update_is_local}
 use Rattle.visits.specs.Visits.{stuck_among, stuck_sites, overrelax}
-use Rattle.sweep.specs.RunOfFrames.{on_field, RunState, accepted_sum, Answered, opened}
+use Rattle.sweep.specs.RunOfFrames.{on_field, RunState, next, accepted_sum, Answered, opened}
 use Rattle.sweep.proofs.RunOfFrames.{frames_are_visits}
 use Rattle.lattice.specs.Cold.{cold_links}
 use Rattle.lattice.proofs.ColdLinks.{every_link_is_identity}
@@ -59,7 +59,7 @@ none_stuck update U sites h = none_in (stuck_sites update U sites) (λ n m. let 
 accepted_all : (b : RunState) (sizes : List ℕ) → Answered b (map on_field sizes) → accepted_sum b (map on_field sizes) ≡ total sizes
 unfolding accepted_sum Answered total if_accepted
 accepted_all b [] a = refl
-accepted_all b (k ∷ ks) a = rw (a.0, accepted_all _ ks a.1)
+accepted_all b (k ∷ ks) a = rw (a.0, accepted_all (next b (on_field k)) ks a.1)
 
 -- ## the frames
 

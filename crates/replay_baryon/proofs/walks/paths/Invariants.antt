@@ -1,0 +1,10 @@
+use Prim.Native.Nat.{◌≤◌, ◌-◌}
+use mathlib.Core.Path.{◌≡◌}
+use lib.ListN.{length}
+use Rattle.replay_baryon.proofs.walks.paths.Given as goal
+
+abbrev pub invariant-loop-site : goal.invariant-loop-site
+invariant-loop-site l = (l.site ≤ 96) × (length l.codes ≡ 96)
+
+abbrev pub decreases-loop-site : goal.decreases-loop-site
+decreases-loop-site l = 96 - l.site
