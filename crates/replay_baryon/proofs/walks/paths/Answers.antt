@@ -5,4 +5,4 @@ use lib.Seq.{length-take-le}
 use Rattle.replay_baryon.proofs.walks.paths.Goals as goal
 
 pub slice_bounds-path_codes-end : goal.slice_bounds-path_codes-end
-slice_bounds-path_codes-end c = sym (length-take-le _ _ (omega (arith, c.draw_steps.auto.1.0, c.loop-site.invariant.1)))
+slice_bounds-path_codes-end c = sym (length-take-le _ _ (omega (arith, c.draw_steps.auto.codes, c.loop-site.invariant.1)))
