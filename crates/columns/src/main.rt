@@ -3,6 +3,7 @@
 #![tactic(auto)]
 
 const STDIN: i32 = 0;
+
 const STDOUT: i32 = 1;
 
 // Whether anything came.

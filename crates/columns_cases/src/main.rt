@@ -2,7 +2,6 @@
 // refused ones. How the stored lines were made is in docs/DECISIONS.md.
 #![tactic(auto)]
 
-
 // Four bytes t, x, y, z to a word: all extents with at most 64 sites, t fastest.
 const ACCEPTED: [u32; 19] = [
     0x02_02_02_02,

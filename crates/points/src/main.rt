@@ -4,8 +4,8 @@
 
 mod lines;
 mod overrelaxation;
-mod paths;
 mod staircases;
+mod walks;
 
 use mat::Su3;
 use sample::hash::pattern;
@@ -163,7 +163,7 @@ fn main() {
     let t = overrelaxation::points(t);
     let t = staircases::points(t);
     let t = lines::points(t);
-    let t = paths::points(t);
+    let t = walks::points(t);
     io::print_decimal(1, t.compared as u64);
     io::write_all(1, b" compared, ");
     io::print_decimal(1, t.differ as u64);

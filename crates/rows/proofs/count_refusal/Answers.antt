@@ -1,5 +1,4 @@
 use Rattle.std.proofs.Common.{rules}
-
 use Rattle.rows.specs.Answers.{count_refusal}
 use Rattle.rows.proofs.count_refusal.Goals as goal
 

@@ -1,5 +1,4 @@
 use Rattle.std.proofs.Common.{rules}
-
 use Rattle.rows.specs.Answers.{count_value}
 use Rattle.rows.proofs.count_value.Goals as goal
 

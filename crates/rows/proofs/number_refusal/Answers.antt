@@ -1,5 +1,4 @@
 use Rattle.std.proofs.Common.{rules}
-
 use Rattle.rows.specs.Answers.{number_refusal}
 use Rattle.rows.proofs.number_refusal.Goals as goal
 

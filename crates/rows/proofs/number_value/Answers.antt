@@ -1,5 +1,4 @@
 use Rattle.std.proofs.Common.{rules}
-
 use Rattle.rows.specs.Answers.{number_value}
 use Rattle.rows.proofs.number_value.Goals as goal
 

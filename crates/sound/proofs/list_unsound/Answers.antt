@@ -69,9 +69,10 @@ loop-k-preserved c =
     let room : count < length old = let e = c.sites-v.ensures in let q = c.requires.1 in omega (arith, few) in
     let checked : c.sound.result ≡ test k = rw (link_at v k) c.sound.ensures in
     let both : (length c.if-not-sound.found ≡ length old) × Written test old (k + 1) c.if-not-sound.count c.if-not-sound.found =
-        elim c.if-not-sound.branch
-        [ then-not-sound w ↦ rw (w.count-is, w.found-is) (length-set found count k ∙ i.1, written_next test old k count found i.2 (sym checked ∙ w.if-not-sound.true) room)
-        | else-not-sound w ↦ rw (w.count-is, w.found-is) (i.1, written_skip test old k count found i.2 (sym checked ∙ w.if-not-sound.false)) ] in
+    elim c.if-not-sound.branch [
+      | then-not-sound w ↦ rw (w.count-is, w.found-is) (length-set found count k ∙ i.1, written_next test old k count found i.2 (sym checked ∙ w.if-not-sound.true) room)
+      | else-not-sound w ↦ rw (w.count-is, w.found-is) (i.1, written_skip test old k count found i.2 (sym checked ∙ w.if-not-sound.false))
+    ] in
     (omega arith, both.0, both.1)
 
 pub shape_of-found : goal.shape_of-found

@@ -27,9 +27,10 @@ counted : (c : Joined-visit)
     → (c.if-visit.stuck ≡ c.loop-k.stuck + stuck_count c.args.d c.args.mu (link_of c.args.d c.loop-k.links) (c.nth.result ∷ []))
     × (c.if-visit.stuck ≤ c.loop-k.stuck + 1)
 counted c =
-    elim c.if-visit.branch
-    [ then-visit w ↦ let s = one_stuck _ _ _ _ (sym c.visit.ensures.stuck ∙ w.if-visit.true) in (rw s w.stuck-is, omega (arith, w.stuck-is))
-    | else-visit w ↦ let s = one_free _ _ _ _ (sym c.visit.ensures.stuck ∙ w.if-visit.false) in (rw s (w.stuck-is ∙ sym (add-zero _)), omega (arith, w.stuck-is)) ]
+    elim c.if-visit.branch [
+      | then-visit w ↦ let s = one_stuck _ _ _ _ (sym c.visit.ensures.stuck ∙ w.if-visit.true) in (rw s w.stuck-is, omega (arith, w.stuck-is))
+      | else-visit w ↦ let s = one_free _ _ _ _ (sym c.visit.ensures.stuck ∙ w.if-visit.false) in (rw s (w.stuck-is ∙ sym (add-zero _)), omega (arith, w.stuck-is))
+    ]
 
 pub loop-k-init : goal.loop-k-init
 unfolding stuck_among

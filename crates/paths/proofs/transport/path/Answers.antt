@@ -41,19 +41,20 @@ loop-i-preserved c =
     let inside : i < length steps = omega arith in
     let axis : (get_or steps i no_step).axis < 4 = c.requires.1.axes i (omega arith) in
     let last = sites_last _ _ _ _ c.requires.0 in
-    elim c.if-step.branch
-    [ then-step w ↦
-        let m = rw (w.link.ensures, last) at w.mul-u.ensures in (
-          omega arith,
-          rw (w.u-is, w.p-is) (forward_next _ _ _ steps i inside inv.1 refl w.if-step.true m w.up-p.ensures),
-          rw w.p-is (from_up _ _ _ _ inv.2 _ axis w.up-p.ensures),
-        )
-    | else-step w ↦
-        let m = rw (w.link-else-step.ensures, last) at w.mul_dag-u.ensures in (
-          omega arith,
-          rw (w.u-is, w.p-is) (backward_next _ _ _ steps i inside inv.1 refl w.if-step.false w.down-p.ensures m),
-          rw w.p-is (from_down _ _ _ _ inv.2 _ axis w.down-p.ensures),
-        ) ]
+    elim c.if-step.branch [
+      | then-step w ↦
+          let m = rw (w.link.ensures, last) at w.mul-u.ensures in (
+            omega arith,
+            rw (w.u-is, w.p-is) (forward_next _ _ _ steps i inside inv.1 refl w.if-step.true m w.up-p.ensures),
+            rw w.p-is (from_up _ _ _ _ inv.2 _ axis w.up-p.ensures),
+          )
+      | else-step w ↦
+          let m = rw (w.link-else-step.ensures, last) at w.mul_dag-u.ensures in (
+            omega arith,
+            rw (w.u-is, w.p-is) (backward_next _ _ _ steps i inside inv.1 refl w.if-step.false w.down-p.ensures m),
+            rw w.p-is (from_down _ _ _ _ inv.2 _ axis w.down-p.ensures),
+          )
+    ]
 
 pub returns : goal.returns
 returns c = let e : c.loop-i.i ≡ c.args.along.count = omega arith in path_done _ _ _ _ e c.loop-i.invariant.1
