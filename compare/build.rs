@@ -20,7 +20,7 @@ fn main() {
     let out = folder("OUT_DIR");
     println!("cargo::rerun-if-env-changed={RUST}");
     bring_reference(&folder(RUST).join("crates/phyz-qft/src/su3"), &out);
-    link_library(&folder("CARGO_MANIFEST_DIR").join("../target/staticlib"));
+    link_library(&folder("CARGO_MANIFEST_DIR").join("../crates/export/out"));
 }
 
 fn folder(variable: &str) -> PathBuf {

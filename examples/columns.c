@@ -1,10 +1,10 @@
 /* What the cabinet prints, through the C face of Jamjune: the extents t, x, y, z come as four bytes on standard input,
  * and the measurements of a cold field go to standard output, a name and a value to a line. Where the input is refused,
- * the one line is "refused" and the number of the row. At the repository's root, once `rt staticlib export` has written
+ * the one line is "refused" and the number of the row. At the repository's root, once `rt lib` in crates/export has written
  * libexport.a:
  *
- *     cc -std=c99 -Wall -Wextra -Wpedantic -Werror -Iinclude examples/columns.c target/staticlib/libexport.a -o target/columns-c
- *     printf '\2\2\2\2' | target/columns-c
+ *     cc -std=c99 -Wall -Wextra -Wpedantic -Werror -Iinclude examples/columns.c crates/export/out/libexport.a -o crates/export/out/columns-c
+ *     printf '\2\2\2\2' | crates/export/out/columns-c
  *
  * Status 0: the lines were written, a refusal's too; 1: standard input or output failed. */
 #include <inttypes.h>

@@ -12,7 +12,7 @@ use std::time::Duration;
 /// The source of each, and the file from this program's folder.
 const PROGRAMS: [(&str, &str); 2] = [
     ("examples/columns.c", "../target/compare/columns-c"),
-    ("crates/columns", "../target/bin/columns"),
+    ("crates/columns", "../crates/columns/out/columns"),
 ];
 
 /// Between pieces of an input: long enough for a program to read the first by itself.
