@@ -1,6 +1,5 @@
 use mathlib.Core.Bool.{true}
 use mathlib.Core.Path.{◌≡◌, sym, ◌∙◌}
-use borrow.Author.Tests.{not-false}
 use Rattle.rows.proofs.Laws.{no_row, row_holds, row_passes, refuses, accepts}
 use Rattle.geometry.specs.Shape.{Shape, fits_of}
 use Rattle.geometry.proofs.Shape.{fits_shape}

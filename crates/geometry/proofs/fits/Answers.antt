@@ -1,12 +1,7 @@
-use Prim.Native.Nat.{ℕ, ◌-◌}
-use mathlib.Core.Bool.{Bool, true}
 use mathlib.Core.Path.{sym, ◌∙◌}
-use mathlib.Core.List.{List}
 use native.Mathlib.Omega.{arith}
-use lib.ListN.{get_or}
-use borrow.Author.Tests.{not-true, not-false}
 use Rattle.folds.proofs.Laws.{all_none, all_next, all_done, all_fails}
-use Rattle.geometry.specs.Shape.{extent_test, fits_of}
+use Rattle.geometry.specs.Shape.{fits_of}
 use Rattle.geometry.proofs.fits.Goals as goal
 use Rattle.geometry.proofs.fits.Invariants.{test}
 

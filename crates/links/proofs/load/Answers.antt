@@ -1,4 +1,3 @@
-use Prim.Native.Nat.{◌-◌}
 use native.Mathlib.Omega.{arith}
 use Rattle.folds.proofs.Laws.{fill_none, fill_next}
 use Rattle.mat.proofs.Laws.{fill_each}

@@ -1,4 +1,4 @@
-use Prim.Native.Nat.{◌-◌, ◌*◌, ◌+◌}
+use Prim.Native.Nat.{◌*◌, ◌+◌}
 use native.Mathlib.Omega.{arith}
 use Rattle.mat.specs.Product.{row_row}
 use Rattle.folds.proofs.Laws.{fold_none, fold_next, fold_done}

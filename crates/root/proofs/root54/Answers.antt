@@ -1,4 +1,4 @@
-use Rattle.std.proofs.Common.{◌-◌, ⊎_elim, arith}
+use Rattle.std.proofs.Common.{arith}
 use Rattle.root.proofs.Digits.{bound_in, first, one, none, last}
 use Rattle.root.proofs.root54.Goals as goal
 use Rattle.root.proofs.root54.Goals.{then-c-e, else-c-e}

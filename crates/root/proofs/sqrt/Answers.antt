@@ -1,4 +1,4 @@
-use Rattle.std.proofs.Common.{T, sym, subst, ⊎_elim, arith, ltb-false, ltb-true}
+use Rattle.std.proofs.Common.{T, sym, subst, arith, ltb-true}
 use lib.Ieee.{binary64, fits}
 use Rattle.root.proofs.Cases.{positive_finite, above_not_nan, bits_in, root_of_bits, at_infinity, at_zero, at_nan}
 use Rattle.root.proofs.sqrt.Goals as goal

@@ -1,4 +1,3 @@
-use Rattle.std.proofs.Common.{rules}
 use Rattle.rows.proofs.Finite.{finite_true, finite_false}
 use Rattle.rows.proofs.is_finite.Goals as goal
 

@@ -1,7 +1,6 @@
 use Rattle.std.proofs.Common.{rules}
-use mathlib.Core.Path.{◌≡◌, sym, ◌∙◌}
-use lib.ListN.{length, length-map}
-use Rattle.complex.specs.contracts.C64.{the_type}
+use mathlib.Core.Path.{◌≡◌}
+use lib.ListN.{length}
 use Rattle.mat.specs.Unitary.{rows_of}
 use Rattle.update.proofs.ByRows.{by_rows}
 use Rattle.update.proofs.update_link.Goals as goal

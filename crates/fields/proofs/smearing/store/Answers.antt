@@ -1,11 +1,11 @@
-use Prim.Native.Nat.{◌+◌, ◌*◌, ◌-◌, ◌≤◌}
+use Prim.Native.Nat.{◌+◌, ◌*◌, ◌≤◌}
 use mathlib.Core.Path.{◌≡◌, refl, ◌∙◌}
 use native.Mathlib.Omega.{arith}
 use lib.ListN.{length}
 use Rattle.geometry.proofs.Shape.{volume_high}
 use Rattle.links.proofs.Laws.{length-with_matrix}
 use Rattle.stout.proofs.Laws.{stout_nine}
-use Rattle.fields.specs.Calls.{smeared, smeared_list}
+use Rattle.fields.specs.Calls.{smeared_list}
 use Rattle.fields.proofs.Numbers.{link_by, links_by, store_next}
 use Rattle.fields.proofs.smearing.store.Goals as goal
 

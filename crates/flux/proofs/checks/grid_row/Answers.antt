@@ -1,4 +1,4 @@
-use Rattle.std.proofs.Common.{◌≡◌, ◌-◌, true, sym, ◌∙◌, arith, rules}
+use Rattle.std.proofs.Common.{◌≡◌, sym, ◌∙◌, arith, rules}
 use Rattle.folds.proofs.Laws.{all_none, all_next, all_fails}
 use Rattle.rows.proofs.Laws.{no_row, row_holds, row_passes, refuses, accepts}
 use Rattle.flux.proofs.Situations.{bad_grid_lem, good_grid}

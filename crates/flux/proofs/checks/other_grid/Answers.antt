@@ -1,4 +1,4 @@
-use Rattle.std.proofs.Common.{◌≡◌, ◌+◌, ◌-◌, true, eqb, get_or, arith, eq-eqb, ne_eqb}
+use Rattle.std.proofs.Common.{◌≡◌, ◌+◌, eqb, get_or, arith, eq-eqb, ne_eqb}
 use Rattle.folds.proofs.Laws.{all_none, all_next, all_fails}
 use Rattle.flux.specs.Situations.{other_grid}
 use Rattle.flux.proofs.checks.other_grid.Goals as goal

@@ -1,4 +1,3 @@
-use Prim.Native.Nat.{◌-◌}
 use native.Mathlib.Omega.{arith}
 use Rattle.folds.proofs.Laws.{fold_none}
 use Rattle.gauge.proofs.RowProducts.{dot_next, dot_done}

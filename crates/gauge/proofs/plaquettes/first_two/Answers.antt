@@ -1,4 +1,3 @@
-use Prim.Native.Nat.{◌-◌}
 use mathlib.Core.Path.{◌≡◌, ap₂}
 use lib.Ieee.{add, binary64}
 use native.Mathlib.Omega.{arith}

@@ -1,5 +1,5 @@
 use lib.ListN.{get_or}
-use Prim.Native.Nat.{◌*◌, ◌-◌}
+use Prim.Native.Nat.{◌*◌}
 use mathlib.Core.Path.{◌≡◌}
 use native.Mathlib.Omega.{arith}
 use Rattle.folds.proofs.Laws.{fold_none, fold_next}

@@ -1,4 +1,3 @@
-use Prim.Native.Nat.{◌-◌}
 use native.Mathlib.Omega.{arith}
 use Rattle.mat.proofs.Laws.{term_none, term_next, series_none, series_next, series_done}
 use Rattle.mat.proofs.Su3.exp_series.Goals as goal

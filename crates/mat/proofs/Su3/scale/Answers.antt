@@ -1,4 +1,3 @@
-use Prim.Native.Nat.{◌-◌}
 use native.Mathlib.Omega.{arith}
 use Rattle.mat.specs.Matrix.{scale_of}
 use Rattle.mat.proofs.Laws.{fill_each}

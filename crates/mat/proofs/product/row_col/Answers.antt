@@ -1,4 +1,3 @@
-use Prim.Native.Nat.{◌-◌}
 use native.Mathlib.Omega.{arith}
 use Rattle.mat.specs.Product.{row_col}
 use Rattle.folds.proofs.Laws.{fold_none, fold_next, fold_done}

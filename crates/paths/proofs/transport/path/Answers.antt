@@ -1,7 +1,6 @@
-use mathlib.Core.Logic.{⊎_elim}
 use native.Mathlib.Omega.{arith}
 use Rattle.paths.proofs.Walks.{stand, stored, from_up, from_down, sites_last, path_none, forward_next, backward_next, path_done}
-use Prim.Native.Nat.{◌-◌, ◌<◌}
+use Prim.Native.Nat.{◌<◌}
 use mathlib.Core.Path.{◌≡◌, refl}
 use lib.ListN.{length, get_or}
 use Rattle.stairs.specs.Staircase.{no_step}

@@ -1,4 +1,3 @@
-use Prim.Native.Nat.{◌-◌}
 use mathlib.Core.Path.{◌≡◌}
 use native.Mathlib.Omega.{arith}
 use Rattle.paths.proofs.Walks.{stand, stored, from_up, sites_last, line_none, line_next, line_done}

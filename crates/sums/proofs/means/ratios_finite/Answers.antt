@@ -1,6 +1,5 @@
-use Rattle.std.proofs.Common.{◌≡◌, ◌-◌, true, sym, ◌∙◌, arith}
+use Rattle.std.proofs.Common.{◌≡◌, sym, ◌∙◌, arith}
 use Rattle.folds.proofs.Laws.{all_none, all_next, all_fails}
-use Rattle.sums.specs.Means.{ratio}
 use Rattle.field_checks.proofs.Listed.{finite_listed}
 use Rattle.sums.proofs.means.ratios_finite.Goals as goal
 

@@ -1,7 +1,6 @@
-use Rattle.std.proofs.Common.{◌≡◌, ◌-◌, length, refl, ◌∙◌, arith}
+use Rattle.std.proofs.Common.{◌≡◌, length, refl, ◌∙◌, arith}
 use Rattle.folds.proofs.Laws.{fill_none, fill_next, length-fill}
 use Rattle.geometry.proofs.Range.{fill_listed}
-use Rattle.sums.specs.Means.{ratio}
 use Rattle.sums.proofs.means.store_ratios.Goals as goal
 
 pub loop-i-init : goal.loop-i-init
