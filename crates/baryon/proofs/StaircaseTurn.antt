@@ -54,7 +54,7 @@ pub turn_none : (d : List ℤ) (ys₀ : List Step) {w : Stair} → w ≡ stair_o
 turn_none d ys₀ e = record { within = omega arith; here = e ∙ sym (after_none d ys₀); laid = fill_none _ _ }
 
 module _ {d : List ℤ} {ys₀ : List Step} {i : ℕ} {w : Stair} {ys : List Step} (t : Turn d ys₀ i w ys) where
-  len : length ys ≡ length ys₀
+  pub len : length ys ≡ length ys₀
   len = ap length t.laid ∙ length-fill (laid_at d ys₀) ys₀ i
 
   counted : w.count ≡ many d ys₀

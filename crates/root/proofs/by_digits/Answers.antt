@@ -1,3 +1,4 @@
+-- Half of the root of four times as much, rounded up, is the nearest whole number (`nearest_is`).
 use Rattle.std.proofs.Common.{arith}
 use Rattle.root.proofs.Scaling.{nearest_is, root_bounds}
 use Rattle.root.proofs.by_digits.Goals as goal

@@ -1,3 +1,4 @@
+-- What the remainder says of q, of the number after it and of the number before it is in `proofs/Square.antt`.
 use Rattle.std.proofs.Common.{◌≡◌, ℕ, ◌+◌, ◌*◌, ◌^◌, ◌<◌, arith}
 use Rattle.root.proofs.Square.{near_same, near_next, near_last}
 use Rattle.root.proofs.nearest_root.Goals as goal

@@ -1,3 +1,4 @@
+-- The products of the halves are small, and make the square (`proofs/Square.antt`).
 use Rattle.std.proofs.Common.{arith}
 use Rattle.root.proofs.Square.{halves}
 use Rattle.root.proofs.remainder.Goals as goal

@@ -1,3 +1,4 @@
+-- The loop's invariant and what a turn makes of it are in `proofs/Digits.antt`. The measure is the turns that are left.
 use Rattle.std.proofs.Common.{◌-◌}
 use Rattle.root.proofs.Digits.{State}
 use Rattle.root.proofs.root54.Given as goal

@@ -1,3 +1,4 @@
+-- A float above zero is no NaN.
 use Rattle.root.proofs.Cases.{above_not_nan}
 use Rattle.root.proofs.significand_of.Goals as goal
 

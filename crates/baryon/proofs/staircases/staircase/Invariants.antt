@@ -1,3 +1,4 @@
+-- How many steps are laid, the walker after them, and the list with those steps at its front.
 use Rattle.std.proofs.Common.{◌-◌}
 use Rattle.baryon.proofs.StaircaseTurn.{Turn}
 use Rattle.baryon.proofs.staircases.staircase.Given as goal

@@ -11,12 +11,12 @@ use Rattle.sweep.specs.Jobs.{InRange}
 use Rattle.sweep.proofs.Laws.{frame_refused, frame_accepted}
 use Rattle.sweep.proofs.FrameSites.{frame_segment, frame_count}
 use Rattle.sweep.proofs.frames.frame_overrelax.Goals as goal
-use Rattle.sweep.proofs.frames.frame_overrelax.Goals.{After-advance-arg-1, Else-row-ne0}
+use Rattle.sweep.proofs.frames.frame_overrelax.Goals.{After-lesser-count, Else-row-ne0}
 
 checked : (c : Else-row-ne0) → Shape c.args.job.extents × (length c.args.links.now ≡ 72 * volume c.args.job.extents) × InRange c.args.job
 checked c = c.frame_row-row.ensures.accepted c.if-row-ne0.false
 
-least : (c : After-advance-arg-1) → c.lesser-count.result ≡ min c.args.size (half_of c.args.job.extents - c.args.job.visited)
+least : (c : After-lesser-count) → c.lesser-count.result ≡ min c.args.size (half_of c.args.job.extents - c.args.job.visited)
 unfolding half_of
 least c = rw c.sites.ensures at c.lesser-count.ensures
 
@@ -37,13 +37,13 @@ advance-stuck-requires c =
       holds = record { shape = ok.0; len = ok.1 };
       direction = ok.2.direction;
       parity = ok.2.parity;
-      room = omega (arith, least c, ok.2.visited);
+      room = omega (arith, least (goal.at.advance-stuck-requires c).After-lesser-count, ok.2.visited);
     }
 
 pub overflow_add-next-2 : goal.overflow_add-next-2
 overflow_add-next-2 c =
     let ok = checked (goal.at.overflow_add-next-2 c).Else-row-ne0 in
-    let count = least (goal.at.overflow_add-next-2 c).After-advance-arg-1 in
+    let count = least (goal.at.overflow_add-next-2 c).After-lesser-count in
     let high = volume_high _ ok.0 in
     let half = halves _ ok.0 in
     let few = c.advance-stuck.ensures.few in
@@ -52,7 +52,7 @@ overflow_add-next-2 c =
 pub returns : goal.returns
 returns c =
     let ok = checked (goal.at.returns c).Else-row-ne0 in
-    let count = least (goal.at.returns c).After-advance-arg-1 in
+    let count = least (goal.at.returns c).After-lesser-count in
     let sites = frame_segment c.args.job ok.0 ok.2.parity c.args.size count in
     let many = frame_count c.args.job ok.0 ok.2.parity c.args.size count in
     rw (c.advance-stuck.ensures.links, c.advance-stuck.ensures.stuck, sites, many)
