@@ -36,11 +36,9 @@ fn number(h: Fnv, r: Number) -> Fnv {
 
 // The steps of the path from a site: each is the top three bits of a draw.
 fn draw_steps(site: usize, codes: &mut [u8]) {
-    let mut g = Rng::stream(SEED, 5, 0, site as u64);
-    for k in 0..codes.len() {
-        let d = g.next_u64();
-        codes[k] = (d.value >> 61) as u8;
-        g = d.rng;
+    let mut rng = Rng::stream(SEED, 5, 0, site as u64);
+    for code in codes {
+        *code = (rng.next_u64() >> 61) as u8;
     }
 }
 
