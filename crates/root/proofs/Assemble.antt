@@ -19,14 +19,13 @@ bits_of b m g a q p e al ah n lo hi =
     step : (g : ℕ) → 1022 ≤ g → g / 2 - 26 ≡ g / 2 - 27 + 1
     step g l = omega arith
 
--- ---- the shorter way, of `has_root`: w is that pattern where its digits, after the exponent, are the nearest ones
+-- ---- of `has_root`: w is that pattern where its digits, after the exponent, are the nearest ones
 
-pub seen : (b m g a w q1 : ℕ) → PartsOf b m g → a ≡ m * 2 ^ (g % 2) → 2 ^ 52 ≤ a → a < 2 ^ 54 - 1 → w < 2 ^ 64 → q1 < 2 ^ 27 → (q1 + (g / 2 - 26) * 2 ^ 26) % 2 ^ 64 ≡ w / 2 ^ 26
-    → IsNearestRoot (a * 2 ^ 52) (q1 * 2 ^ 26 + w % 2 ^ 26)
+pub seen : (b m g a w q : ℕ) → PartsOf b m g → a ≡ m * 2 ^ (g % 2) → 2 ^ 52 ≤ a → a < 2 ^ 54 - 1 → (q + (g / 2 - 26) * 2 ^ 52) % 2 ^ 64 ≡ w → IsNearestRoot (a * 2 ^ 52) q
     → of_bits binary64 w ≡ sqrt_units (units_bits b)
-seen b m g a w q1 p i al ah hw hq e near =
-    let d = near_in a (q1 * 2 ^ 26 + w % 2 ^ 26) al ah near in
-    subst (λ (z : ℕ). of_bits binary64 z ≡ sqrt_units (units_bits b)) (whole g w q1 p.least p.most hw hq e) (bits_of b m g a (q1 * 2 ^ 26 + w % 2 ^ 26) p i al ah near d.0 d.1)
+seen b m g a w q p i al ah e near =
+    let d = near_in a q al ah near in
+    subst (λ (z : ℕ). of_bits binary64 z ≡ sqrt_units (units_bits b)) (whole g w q p.least p.most d.1 e) (bits_of b m g a q p i al ah near d.0 d.1)
   where
-    whole : (g w q1 : ℕ) → 1022 ≤ g → g < 3120 → w < 2 ^ 64 → q1 < 2 ^ 27 → (q1 + (g / 2 - 26) * 2 ^ 26) % 2 ^ 64 ≡ w / 2 ^ 26 → (g / 2 - 26) * 2 ^ 52 + (q1 * 2 ^ 26 + w % 2 ^ 26) ≡ w
-    whole g w q1 h j k l e = omega arith
+    whole : (g w q : ℕ) → 1022 ≤ g → g < 3120 → q < 2 ^ 53 → (q + (g / 2 - 26) * 2 ^ 52) % 2 ^ 64 ≡ w → (g / 2 - 26) * 2 ^ 52 + q ≡ w
+    whole g w q h j l e = omega arith

@@ -1,6 +1,6 @@
 use Rattle.std.proofs.Common.{T, sym, subst, arith, ltb-true}
 use lib.Ieee.{binary64, fits}
-use Rattle.root.proofs.Cases.{positive_finite, bits_in, root_of_bits, at_infinity, at_zero, at_nan}
+use Rattle.root.proofs.Cases.{positive_finite, bits_in, root_of_bits, at_infinity}
 use Rattle.root.proofs.sqrt.Goals as goal
 use Rattle.root.proofs.sqrt.Goals.{Start}
 
@@ -24,9 +24,3 @@ returns-then-bits-lt4503599627370496 c =
 pub returns-else-bits-lt4503599627370496 : goal.returns-else-bits-lt4503599627370496
 returns-else-bits-lt4503599627370496 c =
     at_infinity c.args.x (held (goal.at.returns-else-bits-lt4503599627370496 c).Start) c.if-x.true (grind arith)
-
-pub returns-then-x-2 : goal.returns-then-x-2
-returns-then-x-2 c = at_zero c.args.x c.if-x-2.true
-
-pub returns-else-x-2 : goal.returns-else-x-2
-returns-else-x-2 c = at_nan c.args.x c.if-x.false c.if-x-2.false
