@@ -3,7 +3,7 @@ use Rattle.std.proofs.Common.{◌≡◌, ℕ, List, [], ◌∷◌, length, get_o
 use Rattle.rng.specs.Splitmix.{splitmix_of}
 use Rattle.rng.specs.Stream.{seeded_of}
 
-four : (s : List ℕ) → length s ≡ 4 → s ≡ get_or s 0 0 ∷ get_or s 1 0 ∷ get_or s 2 0 ∷ get_or s 3 0 ∷ []
+pub four : (s : List ℕ) → length s ≡ 4 → s ≡ get_or s 0 0 ∷ get_or s 1 0 ∷ get_or s 2 0 ∷ get_or s 3 0 ∷ []
 four (a ∷ b ∷ c ∷ d ∷ []) l = refl
 four [] l = cc
 four (a ∷ []) l = cc

@@ -48,7 +48,7 @@ impl Rng {
         }
     }
 
-    #[tactic(auto, unfolding(crate::specs::Xoshiro::draw_of, crate::specs::Xoshiro::result_of, crate::specs::Xoshiro::next_of))]
+    #[tactic(auto, using(crate::proofs::Seeded::four), unfolding(crate::specs::Xoshiro::draw_of, crate::specs::Xoshiro::result_of, crate::specs::Xoshiro::next_of))]
     pub fn next_u64(&mut self) -> u64
         ensures word { result ≡ (draw_of self.old).value }
         ensures moved { self.new ≡ (draw_of self.old).rng }
