@@ -1,5 +1,6 @@
 -- The densities at a site, in lattice units.
 use Rattle.std.specs.Prelude.{ℕ, suc, ◌<◌, List, Float}
+use Rattle.std.specs.Coded.{Unit-prop, le_prop}
 use Rattle.std.specs.Float.{binary64}
 use Rattle.std.specs.Float.Ieee.{div, neg, of_bits}
 use Rattle.mat.specs.declared.Su3.{Su3}
@@ -55,3 +56,9 @@ unfoldable pub InSpace : Density → Type 0
 InSpace Density.Action = Unit {0}
 InSpace Density.Charge = Unit {0}
 InSpace (Density.Electric axis) = axis < 3
+
+pub InSpace-prop : (kind : Density) → IsProp (InSpace kind)
+unfolding InSpace
+InSpace-prop Density.Action = Unit-prop
+InSpace-prop Density.Charge = Unit-prop
+InSpace-prop (Density.Electric axis) = le_prop
