@@ -1,6 +1,4 @@
-use Rattle.std.proofs.Common.{rules}
-use mathlib.Core.Path.{◌≡◌}
-use lib.ListN.{length}
+use Rattle.std.proofs.Common.{rules, ◌≡◌, length}
 use Rattle.mat.specs.Unitary.{rows_of}
 use Rattle.update.proofs.ByRows.{by_rows}
 use Rattle.update.proofs.update_link.Goals as goal
