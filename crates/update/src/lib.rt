@@ -113,6 +113,7 @@ fn from_first(a: Row, b: Row, c: Row, p: Row, q: Row, r: Row) -> Result<Su3, Stu
 }
 
 // The update of a link u whose staples' sum is a.
+#[tactic(auto, using(crate::proofs::ByRows::by_rows), unfolding(mat::specs::Unitary::rows_of))]
 pub fn update_link(u: Su3, a: Su3) -> Result<Su3, Stuck>
     ensures { result ≡ update_link_of u a }
 {

@@ -23,6 +23,7 @@ pub struct LinkSet {
 
 impl LinkSet {
     // Updates the set's link at a site where it stands, unless it is stuck.
+    #[tactic(auto, using(crate::proofs::OneSite::site_stuck, crate::proofs::OneSite::site_moved))]
     fn visit(self, links: &mut [f64], n: usize) -> Result<(), Stuck>
         requires fits { length links.old ≡ 72 * volume self.extents.d }
         requires below { n < volume self.extents.d }
