@@ -41,6 +41,7 @@ impl LinkSet {
 
     // Visits sites of the parity in ascending order, the first of them the from-th, and gives how many
     // links were stuck.
+    #[tactic(auto, using(crate::proofs::Joined::few_stuck, geometry::proofs::Order::nth_below), unfolding(geometry::specs::Order::half_of))]
     pub fn advance(self, links: &mut [f64], from: usize, count: usize) -> usize
         requires fits { length links.old ≡ 72 * volume self.extents.d }
         requires room { from + count ≤ half_of self.extents.d }

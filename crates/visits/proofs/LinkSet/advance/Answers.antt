@@ -1,28 +1,14 @@
 use Rattle.std.proofs.Common.{◌≡◌, ◌+◌, ◌-◌, ◌∙◌, cond, sym, refl, add-zero, arith}
-use Rattle.geometry.proofs.Shape.{volume_high}
-use Rattle.geometry.proofs.Order.{halves, nth_below}
 use Rattle.visits.specs.Visits.{stuck_among}
 use Rattle.visits.proofs.Joined.{visits_none, visits_next, count_next, few_stuck}
 use Rattle.visits.proofs.LinkSet.advance.Goals as goal
 use Rattle.visits.proofs.LinkSet.advance.Goals.{Joined-is_err, then-is_err, else-is_err}
-
-pub overflow_add-k-end : goal.overflow_add-k-end
-overflow_add-k-end c = omega (arith, volume_high _ c.args.self.extents.fits, halves _ c.args.self.extents.fits)
 
 pub loop-k-init : goal.loop-k-init
 unfolding stuck_among
 loop-k-init c =
     let none : c.args.from - c.args.from ≡ 0 = omega arith in
     record { links = rw none (visits_none _ _ _ c.requires.fits); stuck = rw none refl }
-
-pub visit-requires-clause-below : goal.visit-requires-clause-below
-visit-requires-clause-below c = rw c.nth-site.ensures (nth_below _ c.args.self.extents.fits _ _ (omega arith))
-
-pub overflow_add-stuck : goal.overflow_add-stuck
-overflow_add-stuck c =
-    let set = c.args.self in
-    let few = few_stuck _ _ set.extents.fits set.two _ _ _ _ c.loop-k.invariant.stuck in
-    omega (arith, volume_high _ set.extents.fits, halves _ set.extents.fits)
 
 -- how the count went on
 counted : (c : Joined-is_err) → c.if-is_err.stuck ≡ c.loop-k.stuck + cond c.is_err.result 1 0
