@@ -58,7 +58,7 @@ fn rooms(links: &[f64]) {
 pub fn lines() {
     lengths();
     let mut links = [0.0; 1152];
-    lattice::cold(EXTENTS, 6.0, 0, &mut links);
+    let _ = lattice::cold(EXTENTS, 6.0, 0, &mut links);
     smearing(&links);
     densities(&links);
     rooms(&links);

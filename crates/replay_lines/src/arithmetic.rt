@@ -59,8 +59,8 @@ fn quaternions(call: u32, h: Fnv, p: Pair) -> Fnv {
 }
 
 fn overrelaxed(h: Fnv, p: Pair) -> Fnv {
-    let r = sweep::update_link(p.a, p.b);
-    h.short(r.refusal).matrix(r.matrix)
+    let (row, u) = row_and_value(sweep::update_link(p.a, p.b), Su3::ZERO);
+    h.short(row).matrix(u)
 }
 
 // Adds the answer of a call to the hash.
