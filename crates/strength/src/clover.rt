@@ -1,4 +1,4 @@
-#![tactic(auto, using(geometry::proofs::Neighbour::near_up, geometry::proofs::Neighbour::near_down, geometry::proofs::Neighbour::fwd_below, geometry::proofs::Neighbour::bwd_below, geometry::proofs::Neighbour::up_down, geometry::proofs::Neighbour::down_up, geometry::proofs::Neighbour::down_down, crate::proofs::Corners::up_down_low, crate::proofs::Corners::down_up_low, crate::proofs::Corners::down_down_low), unfolding(gauge::specs::Plaquette::plaquette_of, crate::specs::Clover::clover_of, crate::specs::Clover::strength_of, crate::specs::Clover::strengths_of))]
+#![tactic(auto, using(geometry::proofs::Shape::volume_high, geometry::proofs::Neighbour::near_up, geometry::proofs::Neighbour::near_down, geometry::proofs::Neighbour::fwd_below, geometry::proofs::Neighbour::bwd_below, geometry::proofs::Neighbour::up_down, geometry::proofs::Neighbour::down_up, geometry::proofs::Neighbour::down_down, crate::proofs::Corners::up_down_low, crate::proofs::Corners::down_up_low, crate::proofs::Corners::down_down_low), unfolding(gauge::specs::Plaquette::plaquette_of, crate::specs::Clover::clover_of, crate::specs::Clover::strength_of, crate::specs::Clover::strengths_of))]
 
 ghost use Rattle.std.specs.Prelude.{◌≡◌, ◌<◌};
 ghost use Rattle.geometry.specs.Radix.{volume};
@@ -15,7 +15,7 @@ impl Site<'_> {
         requires { (mu < 4) × (m < volume self.now.lattice.extents.d) }
         ensures { let l = self.now.lattice in result ≡ link_of l.extents.d l.links.now mu m }
     {
-        links::link(self.lattice.links, self.lattice.extents.sites(), mu, m)
+        links::link(self.lattice.links, self.v, mu, m)
     }
 
     // n + mu
@@ -55,31 +55,31 @@ impl Site<'_> {
 impl Plane<'_> {
     // n + nu - mu
     fn above_left(&self) -> usize
-        ensures corner { let d = self.now.site.lattice.extents.d in result ≡ bwd_of d (fwd_of d self.now.site.n self.now.nu) self.now.mu }
-        ensures below { result < volume self.now.site.lattice.extents.d }
+        ensures corner { let d = self.now.site.now.lattice.extents.d in result ≡ bwd_of d (fwd_of d self.now.site.now.n self.now.nu) self.now.mu }
+        ensures below { result < volume self.now.site.now.lattice.extents.d }
     {
         self.site.up(self.nu) + self.site.down(self.mu) - self.site.n
     }
 
     // n - mu - nu
     fn below_left(&self) -> usize
-        ensures corner { let d = self.now.site.lattice.extents.d in result ≡ bwd_of d (bwd_of d self.now.site.n self.now.mu) self.now.nu }
-        ensures below { result < volume self.now.site.lattice.extents.d }
+        ensures corner { let d = self.now.site.now.lattice.extents.d in result ≡ bwd_of d (bwd_of d self.now.site.now.n self.now.mu) self.now.nu }
+        ensures below { result < volume self.now.site.now.lattice.extents.d }
     {
         self.site.down(self.mu) + self.site.down(self.nu) - self.site.n
     }
 
     // n - nu + mu
     fn below_right(&self) -> usize
-        ensures corner { let d = self.now.site.lattice.extents.d in result ≡ fwd_of d (bwd_of d self.now.site.n self.now.nu) self.now.mu }
-        ensures below { result < volume self.now.site.lattice.extents.d }
+        ensures corner { let d = self.now.site.now.lattice.extents.d in result ≡ fwd_of d (bwd_of d self.now.site.now.n self.now.nu) self.now.mu }
+        ensures below { result < volume self.now.site.now.lattice.extents.d }
     {
         self.site.down(self.nu) + self.site.up(self.mu) - self.site.n
     }
 
     // U_ν(n) U_μ†(w) U_ν†(b) U_μ(b): b is n - mu, w is n + nu - mu.
     fn upper_left(&self) -> Su3
-        ensures { let l = self.now.site.lattice in let d = l.extents.d in let n = self.now.site.n in let mu = self.now.mu in let nu = self.now.nu in result ≡ upper_left (link_of d l.links.now) mu nu n (bwd_of d n mu) (bwd_of d (fwd_of d n nu) mu) }
+        ensures { let l = self.now.site.now.lattice in let d = l.extents.d in let n = self.now.site.now.n in let mu = self.now.mu in let nu = self.now.nu in result ≡ upper_left (link_of d l.links.now) mu nu n (bwd_of d n mu) (bwd_of d (fwd_of d n nu) mu) }
     {
         let Plane { site, mu, nu } = *self;
         let b = site.down(mu);
@@ -91,7 +91,7 @@ impl Plane<'_> {
 
     // U_μ†(b) U_ν†(w) U_μ(w) U_ν(c): b is n - mu, c is n - nu, w is n - mu - nu.
     fn lower_left(&self) -> Su3
-        ensures { let l = self.now.site.lattice in let d = l.extents.d in let n = self.now.site.n in let mu = self.now.mu in let nu = self.now.nu in result ≡ lower_left (link_of d l.links.now) mu nu (bwd_of d n mu) (bwd_of d n nu) (bwd_of d (bwd_of d n mu) nu) }
+        ensures { let l = self.now.site.now.lattice in let d = l.extents.d in let n = self.now.site.now.n in let mu = self.now.mu in let nu = self.now.nu in result ≡ lower_left (link_of d l.links.now) mu nu (bwd_of d n mu) (bwd_of d n nu) (bwd_of d (bwd_of d n mu) nu) }
     {
         let Plane { site, mu, nu } = *self;
         let w = self.below_left();
@@ -102,7 +102,7 @@ impl Plane<'_> {
 
     // U_ν†(c) U_μ(c) U_ν(w) U_μ†(n): c is n - nu, w is n - nu + mu.
     fn lower_right(&self) -> Su3
-        ensures { let l = self.now.site.lattice in let d = l.extents.d in let n = self.now.site.n in let mu = self.now.mu in let nu = self.now.nu in result ≡ lower_right (link_of d l.links.now) mu nu n (bwd_of d n nu) (fwd_of d (bwd_of d n nu) mu) }
+        ensures { let l = self.now.site.now.lattice in let d = l.extents.d in let n = self.now.site.now.n in let mu = self.now.mu in let nu = self.now.nu in result ≡ lower_right (link_of d l.links.now) mu nu n (bwd_of d n nu) (fwd_of d (bwd_of d n nu) mu) }
     {
         let Plane { site, mu, nu } = *self;
         let c = site.down(nu);
@@ -115,13 +115,12 @@ impl Plane<'_> {
 
     // The sum of the four leaves, the plaquette first.
     pub fn clover_leaves(&self) -> Su3
-        ensures { let l = self.now.site.lattice in result ≡ clover_of l.extents.d (link_of l.extents.d l.links.now) self.now.site.n self.now.mu self.now.nu }
+        ensures { let l = self.now.site.now.lattice in result ≡ clover_of l.extents.d (link_of l.extents.d l.links.now) self.now.site.now.n self.now.mu self.now.nu }
     {
         let Plane { site, mu, nu } = *self;
-        let v = site.lattice.extents.sites();
         let l1 = gauge::plaquette_at(
             site.lattice.links,
-            v,
+            site.v,
             mu,
             nu,
             site.n,
@@ -136,7 +135,7 @@ impl Plane<'_> {
 
     // F_μν.
     pub fn strength(&self) -> Su3
-        ensures { let l = self.now.site.lattice in result ≡ strength_of l.extents.d (link_of l.extents.d l.links.now) self.now.site.n self.now.mu self.now.nu }
+        ensures { let l = self.now.site.now.lattice in result ≡ strength_of l.extents.d (link_of l.extents.d l.links.now) self.now.site.now.n self.now.mu self.now.nu }
     {
         self.clover_leaves().traceless_antihermitian().scale(0.25)
     }

@@ -33,7 +33,7 @@ fn trace_product(a: Su3, b: Su3) -> f64
 impl Plane<'_> {
     // −Tr F_μν².
     fn density(&self) -> f64
-        ensures { let l = self.now.site.lattice in result ≡ plane_density l.extents.d (link_of l.extents.d l.links.now) self.now.site.n self.now.mu self.now.nu }
+        ensures { let l = self.now.site.now.lattice in result ≡ plane_density l.extents.d (link_of l.extents.d l.links.now) self.now.site.now.n self.now.mu self.now.nu }
     {
         let f = self.strength();
         -trace_product(f, f)

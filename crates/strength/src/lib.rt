@@ -1,7 +1,7 @@
 // The clover field strength and the densities at a site of a field.
 #![tactic(auto)]
 
-ghost use Rattle.std.specs.Prelude.{◌≡◌, ◌≢◌, ◌<◌};
+ghost use Rattle.std.specs.Prelude.{◌≡◌, ◌≢◌, ◌<◌, ◌≤◌};
 ghost use Rattle.geometry.specs.Radix.{volume};
 ghost use Rattle.geometry.specs.Steps.{neighbours_of};
 
@@ -19,12 +19,14 @@ pub enum Density {
     Electric(usize),
 }
 
-// A site of a field, and the sites next to it.
+// A site of a field, and the sites next to it; v is the number of sites, worked out once.
 #[derive(Clone, Copy)]
 pub struct Site<'a> {
     pub lattice: Su3Lattice<'a>,
     pub n: usize,
     pub near: Neighbours,
+    pub v: usize,
+    ghost sites: { (v ≡ volume lattice.extents.d) × (v ≤ 65536) },
     ghost below: { n < volume lattice.extents.d },
     ghost sides: { near ≡ neighbours_of lattice.extents.d n },
 }
@@ -32,7 +34,7 @@ pub struct Site<'a> {
 // A plane of two directions at a site.
 #[derive(Clone, Copy)]
 pub struct Plane<'a> {
-    pub site: Site<'a>,
+    pub site: &'a Site<'a>,
     pub mu: usize,
     pub nu: usize,
     ghost axis: { mu < 4 },
@@ -47,18 +49,20 @@ impl<'a> Site<'a> {
         ensures place { result.n ≡ n }
     {
         let near = steps::neighbours(lattice.extents.d, n);
-        Site { lattice, n, near }
+        let v = lattice.extents.sites();
+        Site {
+            lattice,
+            n,
+            near,
+            v,
+        }
     }
 
-    pub fn plane(&self, mu: usize, nu: usize) -> Plane<'a>
+    pub fn plane(&self, mu: usize, nu: usize) -> Plane<'_>
         requires { (mu < 4) × (nu < 4) × (nu ≢ mu) }
-        ensures site { result.site ≡ self.now }
+        ensures site { result.site.now ≡ self.now }
         ensures axes { (result.mu ≡ mu) × (result.nu ≡ nu) }
     {
-        Plane {
-            site: *self,
-            mu,
-            nu,
-        }
+        Plane { site: self, mu, nu }
     }
 }
