@@ -1,5 +1,5 @@
 // Rows 3, 5 and 12 of lists that are lent beside a cold field of 16 sites, and row 10.
-use crate::{EXTENTS, answer_line, line};
+use crate::{EXTENTS, answer_line};
 
 fn average(label: &[u8], links: &[f64]) {
     answer_line(label, lattice::average_plaquette(EXTENTS, links));
@@ -7,12 +7,12 @@ fn average(label: &[u8], links: &[f64]) {
 
 fn smear(label: &[u8], rho: f64, links: &[f64], smeared: &mut [f64]) {
     let r = fields::stout_step(EXTENTS, rho, links, smeared);
-    line(label, r.refusal);
+    answer_line(label, r);
 }
 
 fn electric(label: &[u8], axis: usize, links: &[f64], density: &mut [f64]) {
     let r = fields::electric_sq(EXTENTS, axis, links, density);
-    line(label, r.refusal);
+    answer_line(label, r);
 }
 
 fn check(label: &[u8], links: &[f64], found: &mut [u32]) {

@@ -10,8 +10,8 @@ use sample::print::{spaced_decimal, spaced_hex, spaced_number};
 // The action density, and after it the topological charge density.
 fn fill_densities(extents: [usize; 4], links: &[f64], densities: &mut [f64]) {
     let sites = densities.len() / 2;
-    fields::action_density(extents, links, &mut densities[..sites]);
-    fields::topological_charge_density(extents, links, &mut densities[sites..]);
+    let _ = fields::action_density(extents, links, &mut densities[..sites]);
+    let _ = fields::topological_charge_density(extents, links, &mut densities[sites..]);
 }
 
 // An addition's line: the accumulator, the grid and the scratch as they are now.

@@ -1,5 +1,6 @@
-use fields::StrengthAnswer;
-use replay_lines::field_lines::matrix_answer;
+use mat::Su3;
+use replay_lines::field_lines::matrix;
+use rows::Refusal;
 use sample::hash::Fnv;
 
 // Hashes over the answers of calls at one site, all sites in turn.
@@ -8,7 +9,7 @@ use sample::hash::Fnv;
 pub fn clover_leaves(extents: [usize; 4], links: &[f64]) -> Fnv {
     let mut h = Fnv::EMPTY;
     for k in 0..links.len() / 72 * 16 {
-        h = matrix_answer(
+        h = matrix(
             h,
             fields::clover_leaves(extents, k / 16, k / 4 % 4, k % 4, links),
         );
@@ -17,16 +18,11 @@ pub fn clover_leaves(extents: [usize; 4], links: &[f64]) -> Fnv {
 }
 
 // Adds six matrices to the hash, and where they are refused their refusal number alone.
-fn strength(h: Fnv, r: StrengthAnswer) -> Fnv {
-    if r.refusal != 0 {
-        return h.short(r.refusal);
+fn strength(h: Fnv, r: Result<[Su3; 6], Refusal>) -> Fnv {
+    match r {
+        Ok(f) => f.iter().fold(h, |h, u| h.matrix(*u)),
+        Err(refusal) => h.short(u32::from(refusal)),
     }
-    let f = r.f;
-    let mut next = h;
-    for p in 0..6 {
-        next = next.matrix(f[p]);
-    }
-    next
 }
 
 pub fn field_strengths(extents: [usize; 4], links: &[f64]) -> Fnv {
@@ -41,7 +37,7 @@ pub fn field_strengths(extents: [usize; 4], links: &[f64]) -> Fnv {
 pub fn stout_links(extents: [usize; 4], links: &[f64]) -> Fnv {
     let mut h = Fnv::EMPTY;
     for k in 0..links.len() / 18 {
-        h = matrix_answer(h, fields::stout_link(extents, k / 4, k % 4, 0.1, links));
+        h = matrix(h, fields::stout_link(extents, k / 4, k % 4, 0.1, links));
     }
     h
 }

@@ -1,6 +1,6 @@
 use complex::C64;
 use lattice::Plan;
-use mat::{MatrixAnswer, Su3};
+use mat::Su3;
 use rows::{Number, Refusal, row_and_value};
 use sample::hash::Fnv;
 use sample::inputs::{Kind, link};
@@ -39,13 +39,6 @@ pub fn matrix(h: Fnv, r: Result<Su3, Refusal>) -> Fnv {
         Ok(u) => h.matrix(u),
         Err(refusal) => h.short(u32::from(refusal)),
     }
-}
-
-pub fn matrix_answer(h: Fnv, r: MatrixAnswer) -> Fnv {
-    if r.refusal == 0 {
-        return h.matrix(r.matrix);
-    }
-    h.short(r.refusal)
 }
 
 fn plaquettes_at(h: Fnv, extents: [usize; 4], site: usize, links: &[f64]) -> Fnv {
