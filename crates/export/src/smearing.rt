@@ -1,8 +1,10 @@
 ghost use Rattle.fields.specs.Calls.{stout_call};
-ghost use Rattle.export.specs.Face.{MatrixGiven};
+ghost use Rattle.export.specs.Given.{MatrixGiven};
 ghost use Rattle.export.specs.Lists.{SmearGiven};
 
 use arrays::matrix_numbers;
+use mat::Su3;
+use rows::{row, row_and_value};
 
 #[unsafe(no_mangle)]
 pub extern "C" fn jj_stout_link(
@@ -15,9 +17,9 @@ pub extern "C" fn jj_stout_link(
 ) -> u32
     ensures { MatrixGiven (stout_call ext.now site mu rho links.now) result out.new }
 {
-    let answer = fields::stout_link(*ext, site, mu, rho, links);
-    *out = matrix_numbers(answer.matrix);
-    answer.refusal
+    let (row, u) = row_and_value(fields::stout_link(*ext, site, mu, rho, links), Su3::ZERO);
+    *out = matrix_numbers(u);
+    row
 }
 
 #[unsafe(no_mangle)]
@@ -29,5 +31,5 @@ pub extern "C" fn jj_stout_step(
 ) -> u32
     ensures { SmearGiven ext.now rho links.now smeared.old result smeared.new }
 {
-    fields::stout_step(*ext, rho, links, smeared).refusal
+    row(fields::stout_step(*ext, rho, links, smeared))
 }

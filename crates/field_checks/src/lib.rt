@@ -3,6 +3,7 @@
 #![tactic(auto)]
 
 mod answers;
+pub mod checks;
 
 ghost use Rattle.std.specs.Prelude.{◌≡◌, ◌*◌, ◌<◌, ◌≤◌};
 ghost use Rattle.rows.specs.Rows.{Checked};
@@ -45,7 +46,7 @@ pub fn site_row(d: [usize; 4], n: usize) -> u32
     0
 }
 
-fn bad_coords(d: [usize; 4], at: [usize; 4]) -> bool
+pub(crate) fn bad_coords(d: [usize; 4], at: [usize; 4]) -> bool
     ensures { result ≡ bad_coords d at }
 {
     for mu in 0..4 {

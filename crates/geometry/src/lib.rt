@@ -1,7 +1,7 @@
 // Sites, their coordinates and parity. The extents d are those of t, x, y and z.
 #![tactic(auto)]
 
-ghost use Rattle.std.specs.Prelude.{◌≡◌, ◌<◌};
+ghost use Rattle.std.specs.Prelude.{◌≡◌, ◌<◌, ◌≤◌, ◌↔◌, true, IsSome, IfSome};
 ghost use Rattle.geometry.specs.Radix.{volume, coords_of, index_of, Within};
 ghost use Rattle.geometry.specs.Shape.{Shape, extent_test, fits_of};
 ghost use Rattle.geometry.specs.Steps.{parity_of};
@@ -19,6 +19,31 @@ pub struct Neighbours {
 pub struct Spot {
     pub site: usize,
     pub at: [usize; 4],
+}
+
+// The extents of a field along t, x, y and z.
+#[derive(Clone, Copy, Debug, PartialEq, Eq)]
+pub struct Extents {
+    pub d: [usize; 4],
+    ghost fits: { Shape d },
+    ghost few: { (0 < volume d) × (volume d ≤ 65536) },
+}
+
+impl Extents {
+    // None where an extent is odd, below 2 or above 16.
+    pub fn new(d: [usize; 4]) -> Option<Self>
+        ensures fits { IsSome result ↔ (fits_of d ≡ true) }
+        ensures extents { IfSome result (λ e. e.d ≡ d) }
+    {
+        if fits(d) { Some(Self { d }) } else { None }
+    }
+
+    // The number of sites.
+    pub fn sites(self) -> usize
+        ensures { result ≡ volume self.d }
+    {
+        sites(self.d)
+    }
 }
 
 // Whether an extent is even and from 2 to 16.

@@ -1,41 +1,42 @@
+#![tactic(auto, unfolding(rows::specs::Refusals::first_refusal, rows::specs::Refusals::refusal_in, rows::specs::Refusals::answered, rows::specs::Refusals::unless))]
+
 ghost use Rattle.std.specs.Prelude.{◌≡◌, ◌*◌, length};
-ghost use Rattle.lattice.specs.Cold.{Identities, ColdCall};
+ghost use Rattle.lattice.specs.Cold.{cold_links, ColdCall};
+ghost use Rattle.geometry.specs.Radix.{volume};
 
-use crate::{ColdAnswer, Plan};
-use field_checks::plan_row;
+use crate::Plan;
+use field_checks::checks;
+use geometry::Extents;
 use mat::Su3;
+use rows::Refusal;
 
-// Sets every one of the list's links to the identity.
-fn set_identities(links: &mut [f64], count: usize)
-    requires { length links.old ≡ 18 * count }
-    ensures { Identities links.new count }
+// Sets every link of a list to the identity.
+fn set_identities(links: &mut [f64], extents: Extents)
+    requires { length links.old ≡ 72 * volume extents.d }
+    ensures { links.new ≡ cold_links extents.d }
 {
-    for k in 0..count {
+    for k in 0..4 * extents.sites() {
         links::store(links, 18 * k, Su3::IDENTITY);
     }
 }
 
 // Cold start: every link is the identity, and the plan is new.
-pub fn cold(extents: [usize; 4], coupling: f64, seed: u64, links: &mut [f64]) -> ColdAnswer
+pub fn cold(
+    extents: [usize; 4],
+    coupling: f64,
+    seed: u64,
+    links: &mut [f64],
+) -> Result<Plan, Refusal>
     ensures { ColdCall extents coupling seed links.old result links.new }
 {
-    let row = plan_row(extents, coupling, links.len());
-    if row != 0 {
-        let zeros = [0usize; 4];
-        let plan = Plan {
-            extents: zeros,
-            coupling: 0.0,
-            seed: 0,
-            pass: 0,
-        };
-        return ColdAnswer { refusal: row, plan };
-    }
-    set_identities(links, 4 * geometry::sites(extents));
-    let plan = Plan {
+    let fitting = checks::extents(extents)?;
+    checks::coupling(coupling)?;
+    checks::lattice(fitting, links)?;
+    set_identities(links, fitting);
+    Ok(Plan {
         extents,
         coupling,
         seed,
         pass: 0,
-    };
-    ColdAnswer { refusal: 0, plan }
+    })
 }

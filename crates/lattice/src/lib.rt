@@ -20,25 +20,3 @@ pub struct Plan {
     pub seed: u64,
     pub pass: u64,
 }
-
-// A new plan, and 0; or the row that refuses the call, and zeros.
-#[derive(Clone, Copy)]
-pub struct ColdAnswer {
-    pub refusal: u32,
-    pub plan: Plan,
-}
-
-// Coordinates t, x, y, z, and 0; or the row that refuses the call, and zeros.
-#[derive(Clone, Copy)]
-pub struct CoordsAnswer {
-    pub refusal: u32,
-    pub coords: [usize; 4],
-}
-
-// A complex number, and 0; or the row that refuses the call, and zeros.
-#[derive(Clone, Copy)]
-pub struct PolyakovAnswer {
-    pub refusal: u32,
-    pub re: f64,
-    pub im: f64,
-}

@@ -1,31 +1,13 @@
-ghost use Rattle.std.specs.Prelude.{◌≡◌, [], ◌∷◌};
-ghost use Rattle.rows.specs.Rows.{first_row};
-ghost use Rattle.field_checks.specs.Situations.{bad_pair};
-ghost use Rattle.lattice.specs.Answers.{polyakov_answer, plaquette_call, staple_call, AverageCall, ActionCall, polyakov_call};
+#![tactic(auto, unfolding(rows::specs::Refusals::first_refusal, rows::specs::Refusals::refusal_in, rows::specs::Refusals::answered, rows::specs::Refusals::finally, crate::specs::Answers::plaquette_call, crate::specs::Answers::staple_call, crate::specs::Answers::average_call, crate::specs::Answers::action_call, crate::specs::Answers::polyakov_call))]
 
-use crate::{Plan, PolyakovAnswer};
+ghost use Rattle.std.specs.Prelude.{◌≡◌};
+ghost use Rattle.lattice.specs.Answers.{plaquette_call, staple_call, average_call, action_call, polyakov_call};
+
+use crate::Plan;
 use complex::C64;
-use field_checks::{checked_matrix, checked_number, field_row, link_row, plan_row, plane_row};
-use mat::{MatrixAnswer, Su3};
-use rows::Number;
-
-// A complex number as an answer: row 10 where one of its parts isn't finite.
-fn checked_pair(z: C64) -> PolyakovAnswer
-    ensures { result ≡ polyakov_answer (first_row ((bad_pair z, 10) ∷ [])) z }
-{
-    if !z.is_finite() {
-        return PolyakovAnswer {
-            refusal: 10,
-            re: 0.0,
-            im: 0.0,
-        };
-    }
-    PolyakovAnswer {
-        refusal: 0,
-        re: z.re,
-        im: z.im,
-    }
-}
+use field_checks::checks;
+use mat::Su3;
+use rows::Refusal;
 
 // The plaquette of two directions at a site.
 pub fn plaquette(
@@ -34,73 +16,52 @@ pub fn plaquette(
     mu: usize,
     nu: usize,
     links: &[f64],
-) -> MatrixAnswer
+) -> Result<Su3, Refusal>
     ensures { result ≡ plaquette_call extents site mu nu links.now }
 {
-    let row = plane_row(extents, links.len(), site, mu, nu);
-    if row != 0 {
-        return MatrixAnswer {
-            refusal: row,
-            matrix: Su3::ZERO,
-        };
-    }
-    let u = gauge::plaquette(links, extents, site, mu, nu);
-    checked_matrix(u)
+    let extents = checks::extents(extents)?;
+    let lattice = checks::lattice(extents, links)?;
+    checks::site(extents, site)?;
+    checks::plane(mu, nu)?;
+    checks::finite_matrix(gauge::plaquette(lattice.links, extents.d, site, mu, nu))
 }
 
 // The sum of the six staples around a link.
-pub fn staple(plan: Plan, site: usize, mu: usize, links: &[f64]) -> MatrixAnswer
+pub fn staple(plan: Plan, site: usize, mu: usize, links: &[f64]) -> Result<Su3, Refusal>
     ensures { result ≡ staple_call plan site mu links.now }
 {
-    let d = plan.extents;
-    let row = link_row(d, plan.coupling, links.len(), site, mu);
-    if row != 0 {
-        return MatrixAnswer {
-            refusal: row,
-            matrix: Su3::ZERO,
-        };
-    }
-    let a = gauge::staple(links, d, site, mu);
-    checked_matrix(a)
+    let extents = checks::extents(plan.extents)?;
+    checks::coupling(plan.coupling)?;
+    let lattice = checks::lattice(extents, links)?;
+    checks::site(extents, site)?;
+    checks::direction(mu)?;
+    checks::finite_matrix(gauge::staple(lattice.links, extents.d, site, mu))
 }
 
 // ⟨Re Tr U_P⟩ / 3, averaged over all sites and the six planes.
-pub fn average_plaquette(extents: [usize; 4], links: &[f64]) -> Number
-    ensures { AverageCall extents links.now result }
+pub fn average_plaquette(extents: [usize; 4], links: &[f64]) -> Result<f64, Refusal>
+    ensures { result ≡ average_call extents links.now }
 {
-    let row = field_row(extents, links.len());
-    if row != 0 {
-        return Number::Refused(row);
-    }
-    let average = gauge::average_plaquette(links, extents);
-    checked_number(average)
+    let extents = checks::extents(extents)?;
+    let lattice = checks::lattice(extents, links)?;
+    checks::finite(gauge::average_plaquette(lattice.links, extents.d))
 }
 
 // The Wilson action β Σ (1 − Re Tr U_P / 3).
-pub fn action(plan: Plan, links: &[f64]) -> Number
-    ensures { ActionCall plan links.now result }
+pub fn action(plan: Plan, links: &[f64]) -> Result<f64, Refusal>
+    ensures { result ≡ action_call plan links.now }
 {
-    let d = plan.extents;
-    let row = plan_row(d, plan.coupling, links.len());
-    if row != 0 {
-        return Number::Refused(row);
-    }
-    let action = gauge::action(links, d, plan.coupling);
-    checked_number(action)
+    let extents = checks::extents(plan.extents)?;
+    checks::coupling(plan.coupling)?;
+    let lattice = checks::lattice(extents, links)?;
+    checks::finite(gauge::action(lattice.links, extents.d, plan.coupling))
 }
 
 // The Polyakov loop ⟨Tr Π U_0⟩ / 3, averaged over space.
-pub fn polyakov_loop(extents: [usize; 4], links: &[f64]) -> PolyakovAnswer
+pub fn polyakov_loop(extents: [usize; 4], links: &[f64]) -> Result<C64, Refusal>
     ensures { result ≡ polyakov_call extents links.now }
 {
-    let row = field_row(extents, links.len());
-    if row != 0 {
-        return PolyakovAnswer {
-            refusal: row,
-            re: 0.0,
-            im: 0.0,
-        };
-    }
-    let z = gauge::polyakov_loop(links, extents);
-    checked_pair(z)
+    let extents = checks::extents(extents)?;
+    let lattice = checks::lattice(extents, links)?;
+    checks::finite_pair(gauge::polyakov_loop(lattice.links, extents.d))
 }

@@ -1,85 +1,62 @@
-ghost use Rattle.std.specs.Prelude.{◌≡◌};
-ghost use Rattle.rows.specs.Rows.{first_row};
-ghost use Rattle.rows.specs.Answers.{IsCount};
-ghost use Rattle.geometry.specs.Radix.{volume, index_of};
-ghost use Rattle.geometry.specs.Steps.{fwd_of, bwd_of, parity_of};
-ghost use Rattle.field_checks.specs.Rows.{extents_rows, site_rows, coords_rows, step_rows};
-ghost use Rattle.lattice.specs.Answers.{coords_call};
+#![tactic(auto, unfolding(rows::specs::Refusals::first_refusal, rows::specs::Refusals::refusal_in, rows::specs::Refusals::answered, crate::specs::Answers::n_sites_call, crate::specs::Answers::coords_call, crate::specs::Answers::index_call, crate::specs::Answers::parity_call, crate::specs::Answers::fwd_call, crate::specs::Answers::bwd_call))]
 
-use crate::CoordsAnswer;
-use field_checks::{coords_row, extents_row, site_row, step_row};
-use rows::Count;
+ghost use Rattle.std.specs.Prelude.{◌≡◌};
+ghost use Rattle.lattice.specs.Answers.{n_sites_call, coords_call, index_call, parity_call, fwd_call, bwd_call};
+
+use field_checks::checks;
+use rows::Refusal;
 
 // The number of sites.
-pub fn n_sites(extents: [usize; 4]) -> Count
-    ensures { IsCount (first_row (extents_rows extents)) (volume extents) result }
+pub fn n_sites(extents: [usize; 4]) -> Result<usize, Refusal>
+    ensures { result ≡ n_sites_call extents }
 {
-    let row = extents_row(extents);
-    if row != 0 {
-        return Count::Refused(row);
-    }
-    Count::Value(geometry::sites(extents))
+    let extents = checks::extents(extents)?;
+    Ok(extents.sites())
 }
 
 // The coordinates t, x, y, z of a site.
-pub fn coords(extents: [usize; 4], site: usize) -> CoordsAnswer
+pub fn coords(extents: [usize; 4], site: usize) -> Result<[usize; 4], Refusal>
     ensures { result ≡ coords_call extents site }
 {
-    let row = site_row(extents, site);
-    if row != 0 {
-        let zeros = [0usize; 4];
-        return CoordsAnswer {
-            refusal: row,
-            coords: zeros,
-        };
-    }
-    let c = geometry::coords(extents, site);
-    CoordsAnswer {
-        refusal: 0,
-        coords: c,
-    }
+    let extents = checks::extents(extents)?;
+    checks::site(extents, site)?;
+    Ok(geometry::coords(extents.d, site))
 }
 
 // The site at coordinates.
-pub fn index(extents: [usize; 4], coords: [usize; 4]) -> Count
-    ensures { IsCount (first_row (coords_rows extents coords)) (index_of extents coords) result }
+pub fn index(extents: [usize; 4], coords: [usize; 4]) -> Result<usize, Refusal>
+    ensures { result ≡ index_call extents coords }
 {
-    let row = coords_row(extents, coords);
-    if row != 0 {
-        return Count::Refused(row);
-    }
-    Count::Value(geometry::index(extents, coords))
+    let extents = checks::extents(extents)?;
+    checks::coords(extents, coords)?;
+    Ok(geometry::index(extents.d, coords))
 }
 
 // 0 or 1: whether the coordinates' sum is even or odd.
-pub fn parity(extents: [usize; 4], site: usize) -> Count
-    ensures { IsCount (first_row (site_rows extents site)) (parity_of extents site) result }
+pub fn parity(extents: [usize; 4], site: usize) -> Result<usize, Refusal>
+    ensures { result ≡ parity_call extents site }
 {
-    let row = site_row(extents, site);
-    if row != 0 {
-        return Count::Refused(row);
-    }
-    Count::Value(geometry::parity(extents, site))
+    let extents = checks::extents(extents)?;
+    checks::site(extents, site)?;
+    Ok(geometry::parity(extents.d, site))
 }
 
 // The next site along a direction.
-pub fn fwd(extents: [usize; 4], site: usize, mu: usize) -> Count
-    ensures { IsCount (first_row (step_rows extents site mu)) (fwd_of extents site mu) result }
+pub fn fwd(extents: [usize; 4], site: usize, mu: usize) -> Result<usize, Refusal>
+    ensures { result ≡ fwd_call extents site mu }
 {
-    let row = step_row(extents, site, mu);
-    if row != 0 {
-        return Count::Refused(row);
-    }
-    Count::Value(steps::fwd(extents, site, mu))
+    let extents = checks::extents(extents)?;
+    checks::site(extents, site)?;
+    checks::direction(mu)?;
+    Ok(steps::fwd(extents.d, site, mu))
 }
 
 // The site before along a direction.
-pub fn bwd(extents: [usize; 4], site: usize, mu: usize) -> Count
-    ensures { IsCount (first_row (step_rows extents site mu)) (bwd_of extents site mu) result }
+pub fn bwd(extents: [usize; 4], site: usize, mu: usize) -> Result<usize, Refusal>
+    ensures { result ≡ bwd_call extents site mu }
 {
-    let row = step_row(extents, site, mu);
-    if row != 0 {
-        return Count::Refused(row);
-    }
-    Count::Value(steps::bwd(extents, site, mu))
+    let extents = checks::extents(extents)?;
+    checks::site(extents, site)?;
+    checks::direction(mu)?;
+    Ok(steps::bwd(extents.d, site, mu))
 }

@@ -9,6 +9,7 @@ mod walks;
 
 use mat::Su3;
 use rng::Rng;
+use rows::row_and_value;
 use sample::hash::pattern;
 
 // What splitmix64 gives from the states 0 and 1234567, and xoshiro256++ from 1, 2, 3, 4; where they
@@ -122,18 +123,12 @@ fn xoshiro256(tally: Tally, wanted: &[u64; 10]) -> Tally {
 
 // The number of sites, and 0 where the extents are refused.
 fn sites(extents: [usize; 4]) -> u64 {
-    match lattice::n_sites(extents) {
-        rows::Count::Value(n) => n as u64,
-        rows::Count::Refused(_) => 0,
-    }
+    row_and_value(lattice::n_sites(extents), 0).1 as u64
 }
 
 // The row that refuses the extents, and 0 where none does.
 fn refusal(extents: [usize; 4]) -> u64 {
-    match lattice::n_sites(extents) {
-        rows::Count::Value(_) => 0,
-        rows::Count::Refused(row) => row as u64,
-    }
+    row_and_value(lattice::n_sites(extents), 0).0 as u64
 }
 
 fn main() {

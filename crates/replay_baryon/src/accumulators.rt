@@ -1,6 +1,6 @@
 use crate::walks::NEAR;
 use flux::FluxAccumulator;
-use replay_lines::field_lines::{fill, number_line, over_links, row_and_list};
+use replay_lines::field_lines::{fill, number_answer_line, over_links, row_and_list};
 use sample::inputs::Kind;
 use sample::print::{spaced_decimal, spaced_hex, spaced_number};
 
@@ -10,8 +10,8 @@ use sample::print::{spaced_decimal, spaced_hex, spaced_number};
 // The action density, and after it the topological charge density.
 fn fill_densities(extents: [usize; 4], links: &[f64], densities: &mut [f64]) {
     let sites = densities.len() / 2;
-    fields::action_density(extents, links, &mut densities[..sites]);
-    fields::topological_charge_density(extents, links, &mut densities[sites..]);
+    let _ = fields::action_density(extents, links, &mut densities[..sites]);
+    let _ = fields::topological_charge_density(extents, links, &mut densities[sites..]);
 }
 
 // An addition's line: the accumulator, the grid and the scratch as they are now.
@@ -55,7 +55,7 @@ fn correlation(acc: FluxAccumulator, k: u32, grid: &[f64]) {
 }
 
 fn mean_lines(acc: FluxAccumulator, grid: &[f64]) {
-    number_line(b"mean_loop", acc.mean_loop());
+    number_answer_line(b"mean_loop", acc.mean_loop());
     io::write_all(1, b"correlation");
     correlation(acc, 0, grid);
     correlation(acc, 1, grid);

@@ -1,5 +1,5 @@
 use baryon::PathAnswer;
-use replay_lines::field_lines::{fill, number_line};
+use replay_lines::field_lines::{fill, number_answer_line};
 use rng::Rng;
 use rows::Number;
 use sample::hash::Fnv;
@@ -91,7 +91,7 @@ fn answers(name: &[u8], links: &[f64]) {
     hash_line(b"paths", paths(links));
     hash_line(b"time_lines", time_lines(links));
     hash_line(b"baryon_loops", baryon_loops(links));
-    number_line(
+    number_answer_line(
         b"baryon_loop",
         baryon::baryon_loop(EXTENTS, 0, UNIT, 2, links),
     );

@@ -7,7 +7,7 @@ pub fn action_line(extents: [usize; 4], links: &[f64]) {
     let mut density = [7.0; 96];
     let r = fields::action_density(extents, links, &mut density);
     io::write_all(1, b"action_density");
-    row_and_list(r.refusal, &density);
+    row_and_list(rows::row(r), &density);
     io::write_all(1, b"\n");
 }
 
@@ -15,14 +15,14 @@ pub fn charge_line(extents: [usize; 4], links: &[f64]) {
     let mut density = [7.0; 96];
     let r = fields::topological_charge_density(extents, links, &mut density);
     io::write_all(1, b"topological_charge_density");
-    row_and_list(r.refusal, &density);
+    row_and_list(rows::row(r), &density);
     io::write_all(1, b"\n");
 }
 
 fn electric(extents: [usize; 4], axis: usize, links: &[f64]) {
     let mut density = [7.0; 96];
     let r = fields::electric_sq(extents, axis, links, &mut density);
-    row_and_list(r.refusal, &density);
+    row_and_list(rows::row(r), &density);
 }
 
 pub fn electric_line(extents: [usize; 4], links: &[f64]) {
@@ -39,6 +39,6 @@ pub fn step_line(extents: [usize; 4], rho: f64, links: &[f64]) {
     let r = fields::stout_step(extents, rho, links, &mut smeared);
     io::write_all(1, b"stout_step");
     spaced_number(rho);
-    row_and_list(r.refusal, &smeared);
+    row_and_list(rows::row(r), &smeared);
     io::write_all(1, b"\n");
 }

@@ -1,5 +1,6 @@
-use fields::StrengthAnswer;
+use mat::Su3;
 use replay_lines::field_lines::matrix;
+use rows::Refusal;
 use sample::hash::Fnv;
 
 // Hashes over the answers of calls at one site, all sites in turn.
@@ -17,16 +18,11 @@ pub fn clover_leaves(extents: [usize; 4], links: &[f64]) -> Fnv {
 }
 
 // Adds six matrices to the hash, and where they are refused their refusal number alone.
-fn strength(h: Fnv, r: StrengthAnswer) -> Fnv {
-    if r.refusal != 0 {
-        return h.short(r.refusal);
+fn strength(h: Fnv, r: Result<[Su3; 6], Refusal>) -> Fnv {
+    match r {
+        Ok(f) => f.iter().fold(h, |h, u| h.matrix(*u)),
+        Err(refusal) => h.short(u32::from(refusal)),
     }
-    let f = r.f;
-    let mut next = h;
-    for p in 0..6 {
-        next = next.matrix(f[p]);
-    }
-    next
 }
 
 pub fn field_strengths(extents: [usize; 4], links: &[f64]) -> Fnv {

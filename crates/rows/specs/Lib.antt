@@ -1,3 +1,5 @@
 pub mod Rows
 pub mod Answers
 pub mod Finite
+pub mod Numbers
+pub mod Refusals

@@ -1,5 +1,10 @@
-use Rattle.export.proofs.Laws.{list_given}
+use Rattle.std.proofs.Common.{ap, ◌∙◌}
+use Rattle.rows.specs.Numbers.{number_in}
+use Rattle.rows.specs.Refusals.{refusal_in}
+use Rattle.rows.proofs.Refusals.{refusal_answered}
 use Rattle.export.proofs.strengths.jj_electric_sq.Goals as goal
 
 pub returns : goal.returns
-returns c = list_given c.electric_sq.ensures
+returns c =
+    let same = ap refusal_in c.electric_sq.ensures.answer ∙ refusal_answered _ _ in
+    record { row = c.row.ensures ∙ ap number_in same; list = c.electric_sq.ensures.list }

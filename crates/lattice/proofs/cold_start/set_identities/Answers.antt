@@ -1,31 +1,16 @@
-use mathlib.Core.Path.{◌≡◌, refl}
-use native.Mathlib.Omega.{arith}
-use Rattle.links.proofs.Laws.{length-with_matrix}
-use Rattle.lattice.proofs.ColdLinks.{identities_next}
+use Rattle.std.proofs.Common.{◌≡◌, ◌*◌, ◌∙◌, arith}
+use Rattle.geometry.specs.Radix.{volume}
+use Rattle.lattice.proofs.ColdLinks.{identities_next, identities_are_cold}
 use Rattle.lattice.proofs.cold_start.set_identities.Goals as goal
-
-pub loop-k-init : goal.loop-k-init
-loop-k-init c = (omega arith, refl, λ j h. absurd (omega arith))
-
-pub overflow_mul-k : goal.overflow_mul-k
-overflow_mul-k c = omega arith
-
-pub store-requires : goal.store-requires
-store-requires c = let i = c.loop-k.invariant in let t = c.loop-k-test.true in let q = c.requires in omega arith
 
 pub loop-k-preserved : goal.loop-k-preserved
 loop-k-preserved c =
-    let i = c.loop-k.invariant in
-    let k = c.loop-k.k in
-    let t = c.loop-k-test.true in
-    let q = c.requires in
-    let e = c.store.ensures in
-    (omega arith, rw (e, length-with_matrix) i.1, rw e (identities_next _ k (omega arith) i.2))
-
-pub shape_of-links : goal.shape_of-links
-shape_of-links c = c.loop-k.invariant.1
+    let room = c.loop-k-test.true in
+    let sites = c.sites-k-end.ensures in
+    rw c.store.ensures (identities_next _ c.loop-k.k (omega (arith, c.loop-k.auto.links, c.requires)) c.loop-k.invariant)
 
 pub returns : goal.returns
 returns c =
-    let e : c.loop-k.k ≡ c.args.count = omega arith in
-    rw e at c.loop-k.invariant.2
+    let sites = c.sites-k-end.ensures in
+    let all : c.loop-k.k ≡ 4 * volume c.args.extents.d = omega (arith, c.loop-k.auto.k-end, c.loop-k-test.false) in
+    identities_are_cold _ _ (c.loop-k.auto.links ∙ c.requires) (rw all at c.loop-k.invariant)

@@ -1,0 +1,119 @@
+// What a call is handed, judged: each check is a row of the table.
+#![tactic(auto, unfolding(rows::specs::Refusals::first_refusal, rows::specs::Refusals::refusal_in, crate::specs::Situations::bad_extents, crate::specs::Situations::bad_links, crate::specs::Situations::bad_site, crate::specs::Situations::bad_direction, crate::specs::Situations::bad_plane, crate::specs::Situations::bad_coords, crate::specs::Situations::bad_room, crate::specs::Situations::bad_number, crate::specs::Situations::bad_pair, crate::specs::Situations::bad_matrix, rows::specs::Refusals::answered))]
+
+ghost use Rattle.std.specs.Prelude.{◌≡◌, ◌*◌, ◌<◌, ◌≤◌, [], ◌∷◌, length};
+ghost use Rattle.rows.specs.Refusals.{Checked, first_refusal, answered};
+ghost use Rattle.geometry.specs.Radix.{volume, Within};
+ghost use Rattle.rows.specs.declared.Refusal.{Refusal};
+ghost use Rattle.field_checks.specs.Situations.{bad_extents, bad_coupling, bad_links, bad_site, bad_coords, bad_direction, bad_plane, bad_room, bad_number, bad_pair, bad_matrix};
+
+use complex::C64;
+use gauge::Su3Lattice;
+use geometry::Extents;
+use mat::Su3;
+use rows::Refusal;
+
+pub fn extents(d: [usize; 4]) -> Result<Extents, Refusal>
+    ensures { Checked ((bad_extents d, Refusal.Extents) ∷ []) (λ e. e.d ≡ d) result }
+{
+    Extents::new(d).ok_or(Refusal::Extents)
+}
+
+pub fn coupling(c: f64) -> Result<(), Refusal>
+    ensures { Checked ((bad_coupling c, Refusal.Coupling) ∷ []) (λ _. Unit {0}) result }
+{
+    if crate::bad_coupling(c) {
+        return Err(Refusal::Coupling);
+    }
+    Ok(())
+}
+
+pub fn lattice(extents: Extents, links: &[f64]) -> Result<Su3Lattice<'_>, Refusal>
+    ensures { Checked ((bad_links extents.d (length links.now), Refusal.Length) ∷ []) (λ l. (l.extents.d ≡ extents.d) × (l.links.now ≡ links.now)) result }
+{
+    if links.len() == 72 * extents.sites() {
+        Ok(Su3Lattice { extents, links })
+    } else {
+        Err(Refusal::Length)
+    }
+}
+
+pub fn site(extents: Extents, n: usize) -> Result<(), Refusal>
+    ensures { Checked ((bad_site extents.d n, Refusal.Site) ∷ []) (λ _. n < volume extents.d) result }
+{
+    if n < extents.sites() {
+        Ok(())
+    } else {
+        Err(Refusal::Site)
+    }
+}
+
+pub fn direction(mu: usize) -> Result<(), Refusal>
+    ensures { Checked ((bad_direction mu, Refusal.Direction) ∷ []) (λ _. mu < 4) result }
+{
+    if mu < 4 {
+        Ok(())
+    } else {
+        Err(Refusal::Direction)
+    }
+}
+
+pub fn plane(mu: usize, nu: usize) -> Result<(), Refusal>
+    ensures { Checked ((bad_plane mu nu, Refusal.Direction) ∷ []) (λ _. (mu < 4) × (nu < 4) × (nu ≡ mu → ⊥)) result }
+{
+    if mu < 4 && nu < 4 && mu != nu {
+        Ok(())
+    } else {
+        Err(Refusal::Direction)
+    }
+}
+
+pub fn coords(extents: Extents, at: [usize; 4]) -> Result<(), Refusal>
+    ensures { Checked ((bad_coords extents.d at, Refusal.Site) ∷ []) (λ _. Within extents.d at) result }
+{
+    if crate::bad_coords(extents.d, at) {
+        return Err(Refusal::Site);
+    }
+    Ok(())
+}
+
+// Room for the numbers of all links.
+pub fn room(extents: Extents, room: usize) -> Result<(), Refusal>
+    ensures { Checked ((bad_room extents.d room, Refusal.Room) ∷ []) (λ _. 4 * volume extents.d ≤ room) result }
+{
+    if room < 4 * extents.sites() {
+        Err(Refusal::Room)
+    } else {
+        Ok(())
+    }
+}
+
+pub fn finite(x: f64) -> Result<f64, Refusal>
+    ensures { result ≡ answered (first_refusal ((bad_number x, Refusal.NotFinite) ∷ [])) x }
+{
+    if rows::is_finite(x) {
+        Ok(x)
+    } else {
+        Err(Refusal::NotFinite)
+    }
+}
+
+pub fn finite_pair(z: C64) -> Result<C64, Refusal>
+    ensures { result ≡ answered (first_refusal ((bad_pair z, Refusal.NotFinite) ∷ [])) z }
+{
+    if z.is_finite() {
+        Ok(z)
+    } else {
+        Err(Refusal::NotFinite)
+    }
+}
+
+pub fn finite_matrix(u: Su3) -> Result<Su3, Refusal>
+    ensures { result ≡ answered (first_refusal ((bad_matrix u, Refusal.NotFinite) ∷ [])) u }
+{
+    if u.is_finite() {
+        Ok(u)
+    } else {
+        Err(Refusal::NotFinite)
+    }
+}

@@ -1,8 +1,0 @@
-use Prim.Native.Nat.{◌≤◌, ◌-◌}
-use Rattle.replay_fields.proofs.singles.strength.Given as goal
-
-abbrev pub invariant-loop-p : goal.invariant-loop-p
-invariant-loop-p l = l.p ≤ 6
-
-abbrev pub decreases-loop-p : goal.decreases-loop-p
-decreases-loop-p l = 6 - l.p
