@@ -11,9 +11,8 @@ pub fn all_within_two(numbers: &[f64]) -> bool
     ensures { result ≡ all_within_two numbers.now }
 {
     let mut all = true;
-    for k in 0..numbers.len() {
-        let x = numbers[k];
-        all &= (x >= -2.0) & (x <= 2.0);
+    for x in numbers {
+        all &= (*x >= -2.0) & (*x <= 2.0);
     }
     all
 }

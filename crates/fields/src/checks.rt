@@ -1,63 +1,32 @@
-ghost use Rattle.std.specs.Prelude.{◌≡◌, ◌*◌, ◌<◌};
-ghost use Rattle.rows.specs.Rows.{Checked};
-ghost use Rattle.geometry.specs.Radix.{volume};
-ghost use Rattle.geometry.specs.Shape.{Shape};
-ghost use Rattle.strength.specs.Densities.{InSpace};
-ghost use Rattle.fields.specs.Situations.{bad_axis, stout_rows, smear_rows, density_rows};
+// The checks that `field_checks` does not have: each is a row of the table.
+#![tactic(auto, unfolding(rows::specs::Refusals::first_refusal, rows::specs::Refusals::refusal_in, crate::specs::Situations::bad_density_list, crate::specs::Situations::bad_axis, strength::specs::Densities::InSpace))]
 
+ghost use Rattle.std.specs.Prelude.{◌≡◌, [], ◌∷◌};
+ghost use Rattle.rows.specs.Refusals.{Checked};
+ghost use Rattle.geometry.specs.Radix.{volume};
+ghost use Rattle.strength.specs.Densities.{InSpace};
+ghost use Rattle.fields.specs.Situations.{bad_density_list, bad_axis};
+
+use geometry::Extents;
+use rows::Refusal;
 use strength::Density;
 
-// The checks: the first row that holds of a call's inputs, and 0 where none does. Each begins
-// with one of `field_checks`.
-
-pub fn stout_row(d: [usize; 4], len: usize, n: usize, mu: usize) -> u32
-    ensures { Checked (stout_rows d len n mu) (Shape d × (len ≡ 72 * volume d) × (n < volume d) × (mu < 4)) result }
+// A list with a number for each site.
+pub fn density_list(extents: Extents, len: usize) -> Result<(), Refusal>
+    ensures { Checked ((bad_density_list extents.d len, Refusal.Length) ∷ []) (λ _. len ≡ volume extents.d) result }
 {
-    let row = field_checks::field_site_row(d, len, n);
-    if row != 0 {
-        return row;
+    if len == extents.sites() {
+        Ok(())
+    } else {
+        Err(Refusal::Length)
     }
-    if mu > 3 {
-        return 5;
-    }
-    0
 }
 
-pub fn smear_row(d: [usize; 4], len: usize, second: usize) -> u32
-    ensures { Checked (smear_rows d len second) (Shape d × (len ≡ 72 * volume d) × (second ≡ 72 * volume d)) result }
-{
-    let row = field_checks::field_row(d, len);
-    if row != 0 {
-        return row;
-    }
-    if field_checks::bad_links(d, second) {
-        return 3;
-    }
-    0
-}
-
-fn bad_axis(kind: Density) -> bool
-    ensures { result ≡ bad_axis kind }
+pub fn axis(kind: Density) -> Result<(), Refusal>
+    ensures { Checked ((bad_axis kind, Refusal.Direction) ∷ []) (λ _. InSpace kind) result }
 {
     match kind {
-        Density::Action => false,
-        Density::Charge => false,
-        Density::Electric(axis) => axis > 2,
+        Density::Electric(axis) if axis > 2 => Err(Refusal::Direction),
+        _ => Ok(()),
     }
-}
-
-pub fn density_row(d: [usize; 4], len: usize, second: usize, kind: Density) -> u32
-    ensures { Checked (density_rows d len second kind) (Shape d × (len ≡ 72 * volume d) × (second ≡ volume d) × InSpace kind) result }
-{
-    let row = field_checks::field_row(d, len);
-    if row != 0 {
-        return row;
-    }
-    if second != geometry::sites(d) {
-        return 3;
-    }
-    if bad_axis(kind) {
-        return 5;
-    }
-    0
 }

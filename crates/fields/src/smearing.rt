@@ -1,12 +1,17 @@
-ghost use Rattle.std.specs.Prelude.{◌≡◌, ◌*◌, length};
-ghost use Rattle.geometry.specs.Radix.{volume};
-ghost use Rattle.gauge.specs.Field.{Holds};
-ghost use Rattle.rows.specs.Finite.{finite_numbers};
-ghost use Rattle.fields.specs.Calls.{stout_call, smeared_list, SmearCall};
+#![tactic(auto, using(crate::proofs::Placed::links_listed), unfolding(rows::specs::Refusals::first_refusal, rows::specs::Refusals::refusal_in, rows::specs::Refusals::answered, rows::specs::Refusals::finally, rows::specs::Refusals::unless, crate::specs::Calls::stout_call, crate::specs::Calls::smear_refusal, rows::specs::Finite::bad_numbers, crate::specs::Places::link_numbers))]
 
-use crate::checks::{smear_row, stout_row};
-use mat::{MatrixAnswer, Su3};
-use rows::ListAnswer;
+ghost use Rattle.std.specs.Prelude.{◌≡◌, ◌*◌};
+ghost use Rattle.geometry.specs.Radix.{volume};
+ghost use Rattle.fields.specs.Calls.{stout_call, SmearCall};
+ghost use Rattle.fields.specs.Places.{link_numbers};
+
+use crate::places;
+use crate::places::Filling;
+use arrays::matrix_numbers;
+use field_checks::checks;
+use gauge::Su3Lattice;
+use mat::Su3;
+use rows::Refusal;
 
 // How many terms of the exponential's series are summed.
 const TERMS: u32 = 12;
@@ -18,58 +23,52 @@ pub fn stout_link(
     mu: usize,
     rho: f64,
     links: &[f64],
-) -> MatrixAnswer
+) -> Result<Su3, Refusal>
     ensures { result ≡ stout_call extents site mu rho links.now }
 {
-    let row = stout_row(extents, links.len(), site, mu);
-    if row != 0 {
-        return MatrixAnswer {
-            refusal: row,
-            matrix: Su3::ZERO,
-        };
-    }
-    let u = stout::stout_link(links, extents, site, mu, rho, TERMS);
-    field_checks::checked_matrix(u)
+    let extents = checks::extents(extents)?;
+    let lattice = checks::lattice(extents, links)?;
+    checks::site(extents, site)?;
+    checks::direction(mu)?;
+    checks::finite_matrix(stout::stout_link(lattice, site, mu, rho, TERMS))
 }
 
-// Whether every number of the smeared links is finite.
-fn is_finite(links: &[f64], d: [usize; 4], rho: f64) -> bool
-    requires { Holds d links.now }
-    ensures { result ≡ finite_numbers (smeared_list d rho links.now) }
-{
-    let v = geometry::sites(d);
-    for k in 0..4 * v {
-        if !stout::stout_link(links, d, k % v, k / v, rho, TERMS).is_finite() {
-            return false;
-        }
-    }
-    true
+// The smeared links of a field, by direction, then site.
+#[derive(Clone, Copy)]
+struct Smearing<'a> {
+    lattice: Su3Lattice<'a>,
+    rho: f64,
 }
 
-// Stores every smeared link.
-fn store(links: &[f64], d: [usize; 4], rho: f64, smeared: &mut [f64])
-    requires { Holds d links.now × (length smeared.old ≡ 72 * volume d) }
-    ensures { smeared.new ≡ smeared_list d rho links.now }
-{
-    let v = geometry::sites(d);
-    for k in 0..4 * v {
-        let u = stout::stout_link(links, d, k % v, k / v, rho, TERMS);
-        links::store(smeared, 18 * k, u);
+impl Filling<18> for Smearing<'_> {
+    ghost places = { λ s. 4 * volume s.lattice.extents.d };
+
+    ghost numbers = { λ s. link_numbers s.lattice.extents.d s.lattice.links.now s.rho };
+
+    fn places(&self) -> usize {
+        4 * self.lattice.extents.sites()
+    }
+
+    fn numbers(&self, k: usize) -> [f64; 18] {
+        let v = self.lattice.extents.sites();
+        matrix_numbers(stout::stout_link(self.lattice, k % v, k / v, self.rho, TERMS))
     }
 }
 
-// One stout step on every link at once, from one list into another: first every number is tested, and then
-// worked out again and stored.
-pub fn stout_step(extents: [usize; 4], rho: f64, links: &[f64], smeared: &mut [f64]) -> ListAnswer
+// One stout step on every link at once, from one list into another.
+pub fn stout_step(
+    extents: [usize; 4],
+    rho: f64,
+    links: &[f64],
+    smeared: &mut [f64],
+) -> Result<(), Refusal>
     ensures { SmearCall extents rho links.now smeared.old result smeared.new }
 {
-    let row = smear_row(extents, links.len(), smeared.len());
-    if row != 0 {
-        return ListAnswer { refusal: row };
-    }
-    if !is_finite(links, extents, rho) {
-        return ListAnswer { refusal: 10 };
-    }
-    store(links, extents, rho, smeared);
-    ListAnswer { refusal: 0 }
+    let extents = checks::extents(extents)?;
+    let lattice = checks::lattice(extents, links)?;
+    checks::lattice(extents, smeared)?;
+    let links = Smearing { lattice, rho };
+    places::check(&links)?;
+    places::store(&links, smeared);
+    Ok(())
 }

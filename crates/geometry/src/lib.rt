@@ -26,6 +26,7 @@ pub struct Spot {
 pub struct Extents {
     pub d: [usize; 4],
     ghost fits: { Shape d },
+    ghost few: { (0 < volume d) × (volume d ≤ 65536) },
 }
 
 impl Extents {
@@ -39,8 +40,7 @@ impl Extents {
 
     // The number of sites.
     pub fn sites(self) -> usize
-        ensures volume { result ≡ volume self.d }
-        ensures bounds { (0 < result) × (result ≤ 65536) }
+        ensures { result ≡ volume self.d }
     {
         sites(self.d)
     }

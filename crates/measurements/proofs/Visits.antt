@@ -1,12 +1,10 @@
 -- The half-sweep of a cold field in frames: what is visited, and that no link is stuck.
-use Prim.Native.Nat.{ℕ, ◌*◌, ◌/◌, ◌<◌, min}
-use mathlib.Core.Bool.{true, false, Bool-discrete, true≢false}
-use mathlib.Core.List.{List, [], ◌∷◌, map, Mem, mem-cons_self, mem-append_left, mem-filter}
-use mathlib.Core.Path.{◌≡◌, refl, ap, subst, sym, ◌∙◌}
-use native.Mathlib.Omega.{arith}
-use lib.Ieee.{add, sub, mul, div, neg, lt, of_int, of_bits, round, sum, units, odd, size, climb, span, of_fields}
-use lib.ListN.{length, drop, take-append-drop}
-use Rattle.rows.specs.Rows.{if_accepted}
+use Rattle.std.proofs.Common.{Result, Ok, None, Float, ℕ, ◌*◌, ◌/◌, ◌<◌, min, false, List, [], ◌∷◌, map, ◌≡◌, refl, ap, subst, sym, ◌∙◌, arith, drop, take-append-drop}
+use Rattle.std.proofs.lemmas.List.Sums.{sum_by-cons}
+use mathlib.Core.List.{mem-cons_of_mem, Mem, mem-cons_self, mem-append_left}
+use lib.Ieee.{sum, add, sub, mul, div, neg, lt, of_int, of_bits, round, units, odd, size, climb, span, of_fields}
+use Rattle.rows.specs.declared.Refusal.{Refusal}
+use Rattle.rows.specs.Refusals.{answered, unless}
 use Rattle.folds.specs.Folds.{fold_to, all_below}
 use Rattle.root.specs.Sqrt.{sqrt_of}
 use Rattle.complex.specs.Complex.{conj_of, norm_sqr, cscale, cadd, csub, cmul, minor, combination, finite_entry}
@@ -22,17 +20,17 @@ use Rattle.geometry.specs.Order.{sites_of, half_of}
 use Rattle.geometry.proofs.Members.{site_inside}
 use Rattle.geometry.proofs.Neighbour.{fwd_below, bwd_below}
 use Rattle.links.specs.Field.{Field}
-use Rattle.update.specs.declared.Updated.{Updated}
-use Rattle.update.specs.Update.{is_stuck, quat_over, reflection_of, is_short, short_norm, if_finite, through_subgroups, update_link_of, update_of}
+use Rattle.update.specs.Update.{Updated, is_stuck, quat_over, reflection_of, is_short, short_norm, if_finite, through_subgroups, update_link_of, update_of}
 use Rattle.update.proofs.UpdateLaws.{update_is_local}
-use Rattle.visits.specs.Visits.{stuck_among, stuck_sites, overrelax}
-use Rattle.sweep.specs.RunOfFrames.{on_field, RunState, next, accepted_sum, Answered, opened}
+use Rattle.visits.specs.Visits.{stuck_among, overrelax}
+use Rattle.sweep.specs.RunOfFrames.{on_field, RunState, answer_of, next, run, accepted_sum, Answered, opened, OthersMisfit, Opening, first_sites}
 use Rattle.sweep.proofs.RunOfFrames.{frames_are_visits}
 use Rattle.lattice.specs.Cold.{cold_links}
 use Rattle.lattice.proofs.ColdLinks.{every_link_is_identity}
 use Rattle.geometry.specs.Steps.{fwd_of, bwd_of, total}
-use Rattle.sweep.specs.Jobs.{open_call, new_job, counted}
-use Rattle.sweep.specs.RunOfFrames.{OthersMisfit, Opening, first_sites}
+use Rattle.sweep.specs.declared.Job.{Job}
+use Rattle.lattice.specs.declared.Plan.{Plan}
+use Rattle.sweep.specs.Jobs.{open_call, new_job, counted, OpenCall, FrameCall}
 use Rattle.measurements.specs.Measurements.{Small, cold_plan, cold_field, job_after, frames_of}
 use Rattle.measurements.proofs.Sites.{by_sites}
 use Rattle.measurements.proofs.Passes.{len, open_passes}
@@ -42,24 +40,69 @@ use Rattle.measurements.proofs.Passes.{len, open_passes}
 abbrev identities : Field
 identities mu n = identity_of
 
-free : (d : List ℕ) (n : ℕ) → is_stuck (update_of d identities n 0).stuck ≡ false
-unfolding update_of update_link_of through_subgroups if_finite short_norm is_short is_stuck reflection_of quat_over project_of quat_norm quat_conj quat_mul to_mat subgroup_of subgroup_refusal block_of sub_block with_row left_mul_rows left_mul_sub row_of rows_of of_rows ortho_row unitary_of reunitarize_of conj_dot row_scale row_norm_sqr row_sub_mul row_combination unit_row cross_conj combination norm_sqr minor staple_of staples_to add_staples add_of dagger_of mul_of mul_dag_of dag_mul_of row_col row_row col_col finite_matrix finite_entry sqrt_of fold_to all_below cadd csub cmul cscale conj_of add sub mul div neg lt of_int of_bits round sum units odd size climb span of_fields
+free : (d : List ℕ) (n : ℕ) → is_stuck (update_of d identities n 0) ≡ false
+unfolding update_of update_link_of through_subgroups if_finite short_norm is_short reflection_of quat_over project_of quat_norm quat_conj quat_mul to_mat subgroup_of subgroup_refusal block_of sub_block with_row left_mul_rows left_mul_sub row_of rows_of of_rows ortho_row unitary_of reunitarize_of conj_dot row_scale row_norm_sqr row_sub_mul row_combination unit_row cross_conj combination norm_sqr minor staple_of staples_to add_staples add_of dagger_of mul_of mul_dag_of dag_mul_of row_col row_row col_col finite_matrix finite_entry sqrt_of fold_to all_below cadd csub cmul cscale conj_of add sub mul div neg lt of_int of_bits round sum units odd size climb span of_fields
 free d n = refl
 
-none_in : (l : List ℕ) → ((n : ℕ) → Mem n l → ⊥) → length l ≡ 0
-none_in [] h = refl
-none_in (n ∷ l) h = absurd (h n mem-cons_self)
-
-none_stuck : (update : Field → ℕ → Updated) (U : Field) (sites : List ℕ) → ((n : ℕ) → Mem n sites → is_stuck (update U n).stuck ≡ false) → stuck_among update U sites ≡ 0
+none_stuck : (update : Field → ℕ → Updated) (U : Field) (sites : List ℕ) → ((n : ℕ) → Mem n sites → is_stuck (update U n) ≡ false) → stuck_among update U sites ≡ 0
 unfolding stuck_among
-none_stuck update U sites h = none_in (stuck_sites update U sites) (λ n m. let both = (mem-filter (λ k. Bool-discrete (is_stuck (update U k).stuck) true)).0 m in true≢false (sym both.1 ∙ h n both.0))
+none_stuck update U [] h = refl
+none_stuck update U (n ∷ ns) h =
+    let here = h n mem-cons_self in
+    let others = none_stuck update U ns (λ m k. h m (mem-cons_of_mem n k)) in
+    simp sum_by-cons (rw (here, others))
 
 -- ## sizes add up
 
 accepted_all : (b : RunState) (sizes : List ℕ) → Answered b (map on_field sizes) → accepted_sum b (map on_field sizes) ≡ total sizes
-unfolding accepted_sum Answered total if_accepted
+unfolding accepted_sum Answered total unless
 accepted_all b [] a = refl
 accepted_all b (k ∷ ks) a = rw (a.0, accepted_all (next b (on_field k)) ks a.1)
+
+-- ## a half-sweep that is accepted
+
+-- no other list is lent
+misfits : (n : ℕ) (sizes : List ℕ) → OthersMisfit n (map on_field sizes)
+unfolding OthersMisfit
+misfits n [] = tt
+misfits n (k ∷ ks) = misfits n ks
+
+module _ (q : Plan) (l : List Float) (opening : Opening q 0 0 l) where
+  abbrev start : RunState
+  start = opened q 0 0 l
+
+  pass : Answered start (map on_field (3 ∷ 0 ∷ 9 ∷ []))
+  pass = (frames_are_visits q 0 0 l (map on_field (3 ∷ 0 ∷ 9 ∷ [])) opening (misfits (72 * volume q.extents) (3 ∷ 0 ∷ 9 ∷ []))).1
+
+  -- a frame that is accepted takes a state to the next
+  frame_step : (b : RunState) (size : ℕ) {j n : Job} {k m : List Float} {r : Result (Unit {0}) Refusal} → j ≡ b.job → k ≡ b.links → FrameCall j size k r n m → (answer_of b (on_field size)).refusal ≡ None
+      → (r ≡ Ok tt) × (n ≡ (next b (on_field size)).job) × (m ≡ (next b (on_field size)).links)
+  unfolding answered
+  frame_step b size e f call none = let on_state = rw (e, f) at call in (rw (on_state.answer, none), on_state.job, on_state.links)
+
+  module _ {r : Result Job Refusal} {q' : Plan} (opens : OpenCall q 0 0 r q') where
+    pub open_accepted : r ≡ Ok start.job
+    unfolding answered
+    open_accepted = rw (opens.answer, opening.accepted)
+
+    module _ {j : Job} (e : r ≡ Ok j) {r3 : Result (Unit {0}) Refusal} {j3 : Job} {l3 : List Float} (frame3 : FrameCall j 3 l r3 j3 l3) where
+      pub first : (r3 ≡ Ok tt) × (j3 ≡ (next start (on_field 3)).job) × (l3 ≡ (next start (on_field 3)).links)
+      unfolding Answered
+      first = let both = sym e ∙ open_accepted in frame_step start 3 (cc) refl frame3 pass.0
+
+      module _ {r0 : Result (Unit {0}) Refusal} {j0 : Job} {l0 : List Float} (frame0 : FrameCall j3 0 l3 r0 j0 l0) where
+        pub second : (r0 ≡ Ok tt) × (j0 ≡ (next (next start (on_field 3)) (on_field 0)).job) × (l0 ≡ (next (next start (on_field 3)) (on_field 0)).links)
+        unfolding Answered
+        second = frame_step (next start (on_field 3)) 0 first.1 first.2 frame0 pass.1.0
+
+        module _ {r9 : Result (Unit {0}) Refusal} {j9 : Job} {l9 : List Float} (frame9 : FrameCall j0 9 l0 r9 j9 l9) where
+          pub third : (r9 ≡ Ok tt) × (j9 ≡ (next (next (next start (on_field 3)) (on_field 0)) (on_field 9)).job) × (l9 ≡ (next (next (next start (on_field 3)) (on_field 0)) (on_field 9)).links)
+          unfolding Answered
+          third = frame_step (next (next start (on_field 3)) (on_field 0)) 9 second.1 second.2 frame9 pass.1.1.0
+
+          pub all_frames : record { frame3 = j3.visited; frame0 = j0.visited; frame9 = j9.visited; stuck = j9.stuck } ≡ frames_of q l
+          unfolding frames_of run
+          all_frames = rw (first.1, second.1, third.1)
 
 -- ## the frames
 
@@ -83,21 +126,15 @@ module _ (d : List ℕ) (small : Small d) where
       })
 
   all_free : (s : ℕ) → stuck_among (overrelax d 0) (cold_field d) (first_sites d 0 s) ≡ 0
-  all_free s = none_stuck (overrelax d 0) (cold_field d) (first_sites d 0 s) (λ n m. ap (λ u. is_stuck u.stuck) (update_same n (site_inside d 0 n (subst (Mem n) (take-append-drop s (sites_of d 0)) (mem-append_left (drop s (sites_of d 0)) m))).0) ∙ free d n)
+  all_free s = none_stuck (overrelax d 0) (cold_field d) (first_sites d 0 s) (λ n m. ap is_stuck (update_same n (site_inside d 0 n (subst (Mem n) (take-append-drop s (sites_of d 0)) (mem-append_left (drop s (sites_of d 0)) m))).0) ∙ free d n)
 
-  opening : Opening (cold_plan d) 0 0 (cold_links d)
+  pub opening : Opening (cold_plan d) 0 0 (cold_links d)
   unfolding open_call
   opening = record { four = small.shape.four; accepted = open_passes d small; fits = len d small }
 
-  -- no other list is lent
-  misfits : (sizes : List ℕ) → OthersMisfit (72 * volume d) (map on_field sizes)
-  unfolding OthersMisfit
-  misfits [] = tt
-  misfits (k ∷ ks) = misfits ks
-
   job_after_lem : (sizes : List ℕ) → job_after (cold_plan d) (cold_links d) (map on_field sizes) ≡ counted (new_job (cold_plan d) 0 0) (min (total sizes) (half_of d)) 0
   job_after_lem sizes =
-      let both = frames_are_visits (cold_plan d) 0 0 (cold_links d) (map on_field sizes) opening (misfits sizes) in
+      let both = frames_are_visits (cold_plan d) 0 0 (cold_links d) (map on_field sizes) opening (misfits (72 * volume d) sizes) in
       both.0.job ∙ rw (accepted_all (opened (cold_plan d) 0 0 (cold_links d)) sizes both.1, all_free (min (total sizes) (half_of d)))
 
   three : min 3 (half_of d) ≡ 3

@@ -8,6 +8,8 @@ mod staircases;
 mod walks;
 
 use mat::Su3;
+use rng::Rng;
+use rows::row_and_value;
 use sample::hash::pattern;
 
 // What splitmix64 gives from the states 0 and 1234567, and xoshiro256++ from 1, 2, 3, 4; where they
@@ -101,44 +103,32 @@ impl Tally {
 fn splitmix64(tally: Tally, seed: u64, wanted: &[u64; 5]) -> Tally {
     let mut t = tally;
     let mut x = seed;
-    for i in 0..5usize {
-        let m = rng::splitmix(x);
-        t = t.whole(b"splitmix64 ", m.out, wanted[i]);
-        x = m.state;
+    for word in wanted {
+        t = t.whole(b"splitmix64 ", rng::splitmix(&mut x), *word);
     }
     t
 }
 
-// Each draw is made by value and by lending, from a generator of its own.
+// Each draw is made of a generator at hand, and of another behind a reference.
 fn xoshiro256(tally: Tally, wanted: &[u64; 10]) -> Tally {
     let mut t = tally;
-    let mut g = rng::Rng { s: [1, 2, 3, 4] };
-    let mut h = rng::Rng { s: [1, 2, 3, 4] };
-    for i in 0..10usize {
-        let d = g.next_u64();
-        t = t.whole(b"xoshiro256++ ", d.value, wanted[i]);
-        g = d.rng;
-        let l = rng::draw_by_ref(h);
-        t = t.whole(b"xoshiro256++ by reference ", l.value, wanted[i]);
-        h = l.rng;
+    let mut own = Rng { s: [1, 2, 3, 4] };
+    let lent = &mut Rng { s: [1, 2, 3, 4] };
+    for word in wanted {
+        t = t.whole(b"xoshiro256++ ", own.next_u64(), *word);
+        t = t.whole(b"xoshiro256++ by reference ", lent.next_u64(), *word);
     }
     t
 }
 
 // The number of sites, and 0 where the extents are refused.
 fn sites(extents: [usize; 4]) -> u64 {
-    match lattice::n_sites(extents) {
-        rows::Count::Value(n) => n as u64,
-        rows::Count::Refused(_) => 0,
-    }
+    row_and_value(lattice::n_sites(extents), 0).1 as u64
 }
 
 // The row that refuses the extents, and 0 where none does.
 fn refusal(extents: [usize; 4]) -> u64 {
-    match lattice::n_sites(extents) {
-        rows::Count::Value(_) => 0,
-        rows::Count::Refused(row) => row as u64,
-    }
+    row_and_value(lattice::n_sites(extents), 0).0 as u64
 }
 
 fn main() {

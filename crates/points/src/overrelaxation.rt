@@ -1,6 +1,7 @@
 use crate::Tally;
 use lattice::Plan;
 use mat::Su3;
+use rows::{Refusal, row};
 use sample::hash::pattern;
 use sweep::Job;
 
@@ -15,39 +16,39 @@ fn norm(t: Tally, scale: f64, wanted: u64) -> Tally {
     let r = sweep::update_link(Su3::IDENTITY, Su3::IDENTITY.scale(scale));
     io::write_all(1, b"row that refuses the norm ");
     io::print_hex(1, pattern(scale), 16);
-    let t = t.whole(b" ", r.refusal as u64, wanted);
-    if wanted == 0 {
-        return t.matrix(b"updated identity ", r.matrix, &UPDATED);
+    let t = t.whole(b" ", row(r) as u64, wanted);
+    match r {
+        Ok(updated) => t.matrix(b"updated identity ", updated, &UPDATED),
+        Err(_) => t,
     }
-    t
 }
 
 // The small examples of rows 6, 7 and 9; the list is a field of zeros. Of the first call both 6 and 7
 // hold.
 fn refusals(t: Tally, extents: [usize; 4], zeros: &[f64]) -> Tally {
-    let plan = Plan {
+    let mut plan = Plan {
         extents,
         coupling: 6.0,
         seed: 0,
         pass: u64::MAX,
     };
-    let r = sweep::open_overrelax(plan, 0, 2);
-    let t = t.whole(b"row that refuses parity 2 ", r.refusal as u64, 6);
-    let r = sweep::open_overrelax(plan, 0, 0);
-    let t = t.whole(b"row that refuses pass 2^64 - 1 ", r.refusal as u64, 7);
+    let r = sweep::open_overrelax(&mut plan, 0, 2);
+    let t = t.whole(b"row that refuses parity 2 ", row(r) as u64, 6);
+    let r = sweep::open_overrelax(&mut plan, 0, 0);
+    let t = t.whole(b"row that refuses pass 2^64 - 1 ", row(r) as u64, 7);
     let r = sweep::update_link(Su3::ZERO, Su3::IDENTITY);
-    let t = t.whole(b"row that refuses a link of zeros ", r.refusal as u64, 9);
+    let t = t.whole(b"row that refuses a link of zeros ", row(r) as u64, 9);
     let r = sweep::overrelax_link(plan, 0, 0, zeros);
     t.whole(
         b"row that refuses a field's link of zeros ",
-        r.refusal as u64,
+        row(r) as u64,
         9,
     )
 }
 
 // Row 8's: of 16 sites 8 have the job's parity.
 fn job_refusals(t: Tally, extents: [usize; 4], links: &mut [f64]) -> Tally {
-    let job = Job {
+    let mut job = Job {
         extents,
         direction: 0,
         parity: 0,
@@ -55,52 +56,47 @@ fn job_refusals(t: Tally, extents: [usize; 4], links: &mut [f64]) -> Tally {
         stuck: 0,
         pass: 0,
     };
-    let r = sweep::frame_overrelax(job, 1, links);
+    let r = sweep::frame_overrelax(&mut job, 1, links);
     let t = t.whole(
         b"row that refuses a frame after 9 of 16 sites ",
-        r.refusal as u64,
+        row(r) as u64,
         8,
     );
     let r = sweep::finished(job);
     t.whole(
         b"row that refuses to say if 9 of 16 sites are all ",
-        r.refusal as u64,
+        row(r) as u64,
         8,
     )
-}
-
-fn finished(job: Job) -> u64 {
-    let r = sweep::finished(job);
-    if r.finished { 1 } else { 0 }
 }
 
 // How many sites are visited, and whether these are all.
 fn after_frame(t: Tally, label: &[u8], job: Job, visited: u64, all: u64) -> Tally {
     let t = t.whole(label, job.visited as u64, visited);
-    t.whole(b"finished ", finished(job), all)
+    let finished = sweep::finished(job) == Ok(true);
+    t.whole(b"finished ", u64::from(finished), all)
 }
 
 // Frames of 3, 0 and 9 sites in one half-sweep of a cold field of 16 sites, and between the first two
 // one that is lent a shorter list.
-fn frames(t: Tally) -> Tally {
+fn half_sweep(t: Tally) -> Result<Tally, Refusal> {
     let mut links = [0.0; 1152];
-    let cold = lattice::cold([2, 2, 2, 2], 6.0, 0, &mut links);
-    let opened = sweep::open_overrelax(cold.plan, 0, 0);
-    let first = sweep::frame_overrelax(opened.job, 3, &mut links);
+    let mut plan = lattice::cold([2, 2, 2, 2], 6.0, 0, &mut links)?;
+    let mut job = sweep::open_overrelax(&mut plan, 0, 0)?;
+    sweep::frame_overrelax(&mut job, 3, &mut links)?;
+    let t = after_frame(t, b"frame-3 ", job, 3, 0);
     let mut short = [0.0; 1151];
-    let refused = sweep::frame_overrelax(first.job, 5, &mut short);
-    let second = sweep::frame_overrelax(refused.job, 0, &mut links);
-    let third = sweep::frame_overrelax(second.job, 9, &mut links);
-    let t = after_frame(t, b"frame-3 ", first.job, 3, 0);
+    let r = sweep::frame_overrelax(&mut job, 5, &mut short);
     let t = t.whole(
         b"row that refuses a frame on 1151 numbers ",
-        refused.refusal as u64,
+        row(r) as u64,
         3,
     );
-    let t = after_frame(t, b"frame-0 ", second.job, 3, 0);
-    let last = third.job;
-    let t = after_frame(t, b"frame-9 ", last, 8, 1);
-    t.whole(b"stuck ", last.stuck as u64, 0)
+    sweep::frame_overrelax(&mut job, 0, &mut links)?;
+    let t = after_frame(t, b"frame-0 ", job, 3, 0);
+    sweep::frame_overrelax(&mut job, 9, &mut links)?;
+    let t = after_frame(t, b"frame-9 ", job, 8, 1);
+    Ok(t.whole(b"stuck ", job.stuck as u64, 0))
 }
 
 pub fn points(t: Tally) -> Tally {
@@ -110,5 +106,8 @@ pub fn points(t: Tally) -> Tally {
     let mut links = [0.0; 1152];
     let t = refusals(t, [2, 2, 2, 2], &links);
     let t = job_refusals(t, [2, 2, 2, 2], &mut links);
-    frames(t)
+    match half_sweep(t) {
+        Ok(t) => t,
+        Err(_) => t.count(false),
+    }
 }

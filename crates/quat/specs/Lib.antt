@@ -1,4 +1,3 @@
--- `Quaternion` goes by formulas, `Subgroup` by the entries of matrices; `Answers` has what a call that can refuse gives.
+-- `Quaternion` goes by formulas, `Subgroup` by the entries of matrices, with the calls that can refuse.
 pub mod Quaternion
 pub mod Subgroup
-pub mod Answers

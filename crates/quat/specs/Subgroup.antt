@@ -1,6 +1,7 @@
 -- The three SU(2) subgroups of SU(3): each acts on two rows and the same two columns.
-use Rattle.std.specs.Prelude.{ℕ, zero, suc, ◌+◌, ◌*◌, [], ◌∷◌, ltb, set}
-use Rattle.rows.specs.Rows.{first_row}
+use Rattle.std.specs.Prelude.{ℕ, zero, suc, ◌+◌, ◌*◌, [], ◌∷◌, ltb, set, Option, Result}
+use Rattle.rows.specs.declared.Refusal.{Refusal}
+use Rattle.rows.specs.Refusals.{first_refusal, answered}
 use Rattle.complex.specs.declared.Row.{Row}
 use Rattle.mat.specs.declared.Su3.{Su3}
 use Rattle.quat.specs.declared.Mat2.{Mat2}
@@ -15,9 +16,9 @@ subgroup_of zero = record { i = 0; j = 1 }
 subgroup_of (suc zero) = record { i = 0; j = 2 }
 subgroup_of (suc (suc g)) = record { i = 1; j = 2 }
 
--- the refusal of a subgroup's number: 5 above 2
-unfoldable pub subgroup_refusal : ℕ → ℕ
-subgroup_refusal g = first_row ((ltb 2 g, 5) ∷ [])
+-- the refusal of a subgroup's number above 2
+unfoldable pub subgroup_refusal : ℕ → Option Refusal
+subgroup_refusal g = first_refusal ((ltb 2 g, Refusal.Direction) ∷ [])
 
 -- the entries at rows i, j and columns i, j
 unfoldable pub block_of : Su3 → ℕ → ℕ → Mat2
@@ -39,3 +40,11 @@ left_mul_rows u i j x =
 
 unfoldable pub left_mul_sub : Su3 → ℕ → Mat2 → Su3
 left_mul_sub u g x = left_mul_rows u (subgroup_of g).i (subgroup_of g).j x
+
+-- ## Calls
+
+unfoldable pub sub_block_call : Su3 → ℕ → Result Mat2 Refusal
+sub_block_call u g = answered (subgroup_refusal g) (sub_block u g)
+
+unfoldable pub left_mul_sub_call : Su3 → ℕ → Mat2 → Result Su3 Refusal
+left_mul_sub_call u g x = answered (subgroup_refusal g) (left_mul_sub u g x)

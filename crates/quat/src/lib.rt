@@ -33,10 +33,3 @@ pub struct Subgroup {
     pub i: usize,
     pub j: usize,
 }
-
-// A 2×2 block, and 0; or the row that refuses the call, and zeros.
-#[derive(Clone, Copy)]
-pub struct BlockAnswer {
-    pub refusal: u32,
-    pub block: Mat2,
-}

@@ -1,12 +1,15 @@
-ghost use Rattle.std.specs.Prelude.{◌≡◌, ◌<◌};
-ghost use Rattle.quat.specs.Subgroup.{subgroup_of, with_row, block_of, left_mul_rows, sub_block, left_mul_sub, subgroup_refusal};
-ghost use Rattle.mat.specs.Unitary.{row_of};
-ghost use Rattle.mat.specs.Answers.{matrix_answer};
-ghost use Rattle.quat.specs.Answers.{block_answer};
+#![tactic(auto, unfolding(rows::specs::Refusals::first_refusal, rows::specs::Refusals::refusal_in, rows::specs::Refusals::answered, crate::specs::Subgroup::subgroup_refusal, crate::specs::Subgroup::sub_block, crate::specs::Subgroup::left_mul_sub, crate::specs::Subgroup::sub_block_call, crate::specs::Subgroup::left_mul_sub_call))]
 
-use crate::{BlockAnswer, Mat2, Subgroup};
+ghost use Rattle.std.specs.Prelude.{◌≡◌, ◌<◌, [], ◌∷◌, ltb, IfOk};
+ghost use Rattle.rows.specs.declared.Refusal.{Refusal};
+ghost use Rattle.rows.specs.Refusals.{Checked};
+ghost use Rattle.quat.specs.Subgroup.{subgroup_of, with_row, block_of, left_mul_rows, sub_block_call, left_mul_sub_call};
+ghost use Rattle.mat.specs.Unitary.{row_of};
+
+use crate::{Mat2, Subgroup};
 use complex::{C64, Row};
-use mat::{MatrixAnswer, Su3};
+use mat::Su3;
+use rows::Refusal;
 
 // The three SU(2) subgroups that Cabibbo-Marinari cycles through.
 pub const SUBGROUPS: [Subgroup; 3] = [
@@ -34,14 +37,17 @@ fn listed(subgroup: usize) -> Subgroup
 }
 
 // Worked out, since a look into the table would copy it.
-fn pair(subgroup: usize) -> Subgroup
-    requires { subgroup < 3 }
-    ensures { result ≡ subgroup_of subgroup }
+fn pair(subgroup: usize) -> Result<Subgroup, Refusal>
+    ensures pair { Checked ((ltb 2 subgroup, Refusal.Direction) ∷ []) (λ p. p ≡ subgroup_of subgroup) result }
+    ensures rows { IfOk result (λ p. (p.i < 3) × (p.j < 3)) }
 {
-    Subgroup {
+    if subgroup > 2 {
+        return Err(Refusal::Direction);
+    }
+    Ok(Subgroup {
         i: subgroup / 2,
         j: (subgroup + 3) / 2,
-    }
+    })
 }
 
 fn row(u: Su3, i: usize) -> Row
@@ -93,35 +99,17 @@ fn left_mul_rows(u: Su3, i: usize, j: usize, x: Mat2) -> Su3
 }
 
 // The 2×2 block of `u` that a subgroup acts on.
-pub fn sub_block(u: Su3, subgroup: usize) -> BlockAnswer
-    ensures { result ≡ block_answer (subgroup_refusal subgroup) (sub_block u subgroup) }
+pub fn sub_block(u: Su3, subgroup: usize) -> Result<Mat2, Refusal>
+    ensures { result ≡ sub_block_call u subgroup }
 {
-    if subgroup > 2 {
-        return BlockAnswer {
-            refusal: 5,
-            block: Mat2::ZERO,
-        };
-    }
-    let p = pair(subgroup);
-    BlockAnswer {
-        refusal: 0,
-        block: block(u, p.i, p.j),
-    }
+    let p = pair(subgroup)?;
+    Ok(block(u, p.i, p.j))
 }
 
 // `u` with its subgroup's rows left-multiplied by the 2×2 matrix `x`.
-pub fn left_mul_sub(u: Su3, subgroup: usize, x: Mat2) -> MatrixAnswer
-    ensures { result ≡ matrix_answer (subgroup_refusal subgroup) (left_mul_sub u subgroup x) }
+pub fn left_mul_sub(u: Su3, subgroup: usize, x: Mat2) -> Result<Su3, Refusal>
+    ensures { result ≡ left_mul_sub_call u subgroup x }
 {
-    if subgroup > 2 {
-        return MatrixAnswer {
-            refusal: 5,
-            matrix: Su3::ZERO,
-        };
-    }
-    let p = pair(subgroup);
-    MatrixAnswer {
-        refusal: 0,
-        matrix: left_mul_rows(u, p.i, p.j, x),
-    }
+    let p = pair(subgroup)?;
+    Ok(left_mul_rows(u, p.i, p.j, x))
 }

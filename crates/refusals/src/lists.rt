@@ -1,8 +1,8 @@
 // Rows 3, 5 and 12 of lists that are lent beside a cold field of 16 sites, and row 10.
-use crate::{EXTENTS, count_line, line, number_line};
+use crate::{EXTENTS, answer_line, line};
 
 fn average(label: &[u8], links: &[f64]) {
-    number_line(label, lattice::average_plaquette(EXTENTS, links));
+    answer_line(label, lattice::average_plaquette(EXTENTS, links));
 }
 
 fn smear(label: &[u8], rho: f64, links: &[f64], smeared: &mut [f64]) {
@@ -16,14 +16,14 @@ fn electric(label: &[u8], axis: usize, links: &[f64], density: &mut [f64]) {
 }
 
 fn check(label: &[u8], links: &[f64], found: &mut [u32]) {
-    count_line(label, lattice::link_check(EXTENTS, links, found));
+    answer_line(label, lattice::link_check(EXTENTS, links, found));
 }
 
 fn lengths() {
     let short = [0.0; 1151];
     average(b"1151 link numbers: ", &short);
     let r = lattice::plaquette(EXTENTS, 16, 0, 1, &short);
-    line(b"plaquette at site 16 of 1151 link numbers: ", r.refusal);
+    answer_line(b"plaquette at site 16 of 1151 link numbers: ", r);
     let longer = [0.0; 1153];
     average(b"1153 link numbers: ", &longer);
     let zeros = [0.0; 1152];
@@ -58,7 +58,7 @@ fn rooms(links: &[f64]) {
 pub fn lines() {
     lengths();
     let mut links = [0.0; 1152];
-    lattice::cold(EXTENTS, 6.0, 0, &mut links);
+    let _ = lattice::cold(EXTENTS, 6.0, 0, &mut links);
     smearing(&links);
     densities(&links);
     rooms(&links);

@@ -1,6 +1,6 @@
 use crate::walks::NEAR;
 use flux::FluxAccumulator;
-use replay_lines::field_lines::{fill, number_line, over_links, row_and_list};
+use replay_lines::field_lines::{fill, number_answer_line, over_links, row_and_list};
 use sample::inputs::Kind;
 use sample::print::{spaced_decimal, spaced_hex, spaced_number};
 
@@ -55,7 +55,7 @@ fn correlation(acc: FluxAccumulator, k: u32, grid: &[f64]) {
 }
 
 fn mean_lines(acc: FluxAccumulator, grid: &[f64]) {
-    number_line(b"mean_loop", acc.mean_loop());
+    number_answer_line(b"mean_loop", acc.mean_loop());
     io::write_all(1, b"correlation");
     correlation(acc, 0, grid);
     correlation(acc, 1, grid);

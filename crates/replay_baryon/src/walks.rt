@@ -1,5 +1,5 @@
 use baryon::PathAnswer;
-use replay_lines::field_lines::{fill, number_line};
+use replay_lines::field_lines::{fill, number_answer_line};
 use rng::Rng;
 use rows::Number;
 use sample::hash::Fnv;
@@ -36,11 +36,9 @@ fn number(h: Fnv, r: Number) -> Fnv {
 
 // The steps of the path from a site: each is the top three bits of a draw.
 fn draw_steps(site: usize, codes: &mut [u8]) {
-    let mut g = Rng::stream(SEED, 5, 0, site as u64);
-    for k in 0..codes.len() {
-        let d = g.next_u64();
-        codes[k] = (d.value >> 61) as u8;
-        g = d.rng;
+    let mut rng = Rng::stream(SEED, 5, 0, site as u64);
+    for code in codes {
+        *code = (rng.next_u64() >> 61) as u8;
     }
 }
 
@@ -93,7 +91,7 @@ fn answers(name: &[u8], links: &[f64]) {
     hash_line(b"paths", paths(links));
     hash_line(b"time_lines", time_lines(links));
     hash_line(b"baryon_loops", baryon_loops(links));
-    number_line(
+    number_answer_line(
         b"baryon_loop",
         baryon::baryon_loop(EXTENTS, 0, UNIT, 2, links),
     );

@@ -1,5 +1,5 @@
 use fields::StrengthAnswer;
-use replay_lines::field_lines::matrix;
+use replay_lines::field_lines::matrix_answer;
 use sample::hash::Fnv;
 
 // Hashes over the answers of calls at one site, all sites in turn.
@@ -8,7 +8,7 @@ use sample::hash::Fnv;
 pub fn clover_leaves(extents: [usize; 4], links: &[f64]) -> Fnv {
     let mut h = Fnv::EMPTY;
     for k in 0..links.len() / 72 * 16 {
-        h = matrix(
+        h = matrix_answer(
             h,
             fields::clover_leaves(extents, k / 16, k / 4 % 4, k % 4, links),
         );
@@ -41,7 +41,7 @@ pub fn field_strengths(extents: [usize; 4], links: &[f64]) -> Fnv {
 pub fn stout_links(extents: [usize; 4], links: &[f64]) -> Fnv {
     let mut h = Fnv::EMPTY;
     for k in 0..links.len() / 18 {
-        h = matrix(h, fields::stout_link(extents, k / 4, k % 4, 0.1, links));
+        h = matrix_answer(h, fields::stout_link(extents, k / 4, k % 4, 0.1, links));
     }
     h
 }

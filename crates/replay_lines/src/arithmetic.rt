@@ -1,5 +1,6 @@
 use mat::Su3;
-use quat::Quat;
+use quat::{Mat2, Quat};
+use rows::row_and_value;
 use sample::hash::Fnv;
 use sample::inputs::{Pair, Set, block, pair_at, quaternion};
 use sample::print::hash_line;
@@ -39,11 +40,11 @@ fn derived(call: u32, h: Fnv, p: Pair) -> Fnv {
 fn subgroups(call: u32, h: Fnv, p: Pair) -> Fnv {
     let a = p.a;
     if call == 14 {
-        let r = quat::sub_block(a, p.subgroup);
-        return h.short(r.refusal).block(r.block);
+        let (row, w) = row_and_value(quat::sub_block(a, p.subgroup), Mat2::ZERO);
+        return h.short(row).block(w);
     }
-    let r = quat::left_mul_sub(a, p.subgroup, block(p.b));
-    h.short(r.refusal).matrix(r.matrix)
+    let (row, u) = row_and_value(quat::left_mul_sub(a, p.subgroup, block(p.b)), Su3::ZERO);
+    h.short(row).matrix(u)
 }
 
 fn quaternions(call: u32, h: Fnv, p: Pair) -> Fnv {
@@ -58,8 +59,8 @@ fn quaternions(call: u32, h: Fnv, p: Pair) -> Fnv {
 }
 
 fn overrelaxed(h: Fnv, p: Pair) -> Fnv {
-    let r = sweep::update_link(p.a, p.b);
-    h.short(r.refusal).matrix(r.matrix)
+    let (row, u) = row_and_value(sweep::update_link(p.a, p.b), Su3::ZERO);
+    h.short(row).matrix(u)
 }
 
 // Adds the answer of a call to the hash.

@@ -1,6 +1,7 @@
+use complex::C64;
 use lattice::Plan;
-use mat::MatrixAnswer;
-use rows::{Count, Number};
+use mat::{MatrixAnswer, Su3};
+use rows::{Number, Refusal, row_and_value};
 use sample::hash::Fnv;
 use sample::inputs::{Kind, link};
 use sample::print::{hash_line, spaced_decimal, spaced_hex, spaced_number};
@@ -33,7 +34,14 @@ pub fn row_and_list(row: u32, list: &[f64]) {
 }
 
 // Adds a matrix to the hash, and where it is refused its refusal number alone.
-pub fn matrix(h: Fnv, r: MatrixAnswer) -> Fnv {
+pub fn matrix(h: Fnv, r: Result<Su3, Refusal>) -> Fnv {
+    match r {
+        Ok(u) => h.matrix(u),
+        Err(refusal) => h.short(u32::from(refusal)),
+    }
+}
+
+pub fn matrix_answer(h: Fnv, r: MatrixAnswer) -> Fnv {
     if r.refusal == 0 {
         return h.matrix(r.matrix);
     }
@@ -73,7 +81,15 @@ fn staples(plan: Plan, links: &[f64]) -> Fnv {
 }
 
 // A refusal number, or 0, and a number, or +0.
-pub fn number_line(label: &[u8], r: Number) {
+pub fn number_line(label: &[u8], r: Result<f64, Refusal>) {
+    let (row, x) = row_and_value(r, 0.0);
+    io::write_all(1, label);
+    spaced_decimal(row as u64);
+    spaced_number(x);
+    io::write_all(1, b"\n");
+}
+
+pub fn number_answer_line(label: &[u8], r: Number) {
     io::write_all(1, label);
     match r {
         Number::Value(x) => {
@@ -89,11 +105,11 @@ pub fn number_line(label: &[u8], r: Number) {
 }
 
 fn loop_line(extents: [usize; 4], links: &[f64]) {
-    let r = lattice::polyakov_loop(extents, links);
+    let (row, z) = row_and_value(lattice::polyakov_loop(extents, links), C64::ZERO);
     io::write_all(1, b"polyakov_loop");
-    spaced_decimal(r.refusal as u64);
-    spaced_number(r.re);
-    spaced_number(r.im);
+    spaced_decimal(row as u64);
+    spaced_number(z.re);
+    spaced_number(z.im);
     io::write_all(1, b"\n");
 }
 
@@ -108,7 +124,7 @@ fn over_entries(found: &[u32]) -> Fnv {
 // The list has room for every link of the largest field.
 fn check_line(extents: [usize; 4], links: &[f64]) {
     let mut found = [0u32; 384];
-    let Count::Value(count) = lattice::link_check(extents, links, &mut found) else {
+    let Ok(count) = lattice::link_check(extents, links, &mut found) else {
         return;
     };
     if count > 384 {

@@ -1,20 +1,19 @@
-use rows::Count;
+use rows::{Refusal, row_and_value};
 use sample::hash::Fnv;
 use sample::print::{hash_line, spaced_decimal};
 
 // Adds a site or a parity to the hash, and where it is refused its refusal number.
-fn count(h: Fnv, r: Count) -> Fnv {
+fn count(h: Fnv, r: Result<usize, Refusal>) -> Fnv {
     match r {
-        Count::Value(n) => h.word(n as u64),
-        Count::Refused(row) => h.short(row),
+        Ok(n) => h.word(n as u64),
+        Err(refusal) => h.short(u32::from(refusal)),
     }
 }
 
 fn coords(extents: [usize; 4], sites: usize) -> Fnv {
     let mut h = Fnv::EMPTY;
     for n in 0..sites {
-        let r = lattice::coords(extents, n);
-        let at = r.coords;
+        let (_, at) = row_and_value(lattice::coords(extents, n), [0; 4]);
         h = h
             .word(at[0] as u64)
             .word(at[1] as u64)
@@ -60,7 +59,7 @@ fn extents_line(extents: [usize; 4]) {
 // The lines on the sites alone, which need no links.
 pub fn lines(extents: [usize; 4]) {
     extents_line(extents);
-    let Count::Value(sites) = lattice::n_sites(extents) else {
+    let Ok(sites) = lattice::n_sites(extents) else {
         return;
     };
     io::write_all(1, b"sites");

@@ -1,6 +1,7 @@
 use crate::field_lines::{fill, over_links};
 use lattice::Plan;
 use mat::Su3;
+use rows::{Refusal, row_and_value};
 use sample::hash::Fnv;
 use sample::inputs::Kind;
 use sample::print::{hash_line, spaced_decimal, spaced_hex, spaced_number};
@@ -11,12 +12,12 @@ const ALL: usize = usize::MAX;
 
 // The identity's update with itself scaled as the staple: every norm is the scale.
 fn bound_line(scale: f64) {
-    let r = sweep::update_link(Su3::IDENTITY, Su3::IDENTITY.scale(scale));
-    let link = r.matrix;
+    let updated = sweep::update_link(Su3::IDENTITY, Su3::IDENTITY.scale(scale));
+    let (row, link) = row_and_value(updated, Su3::ZERO);
     let h = Fnv::EMPTY.matrix(link);
     io::write_all(1, b"bound");
     spaced_number(scale);
-    spaced_decimal(r.refusal as u64);
+    spaced_decimal(row as u64);
     spaced_hex(h.state);
     io::write_all(1, b"\n");
 }
@@ -36,54 +37,50 @@ fn stuck_and_links(job: Job, links: &[f64]) {
     io::write_all(1, b"\n");
 }
 
-// A frame's line; the job after it.
-fn frame(job: Job, size: usize, links: &mut [f64]) -> Job {
-    let r = sweep::frame_overrelax(job, size, links);
-    let next = r.job;
+// A frame, and its line.
+fn frame(job: &mut Job, size: usize, links: &mut [f64]) -> Result<(), Refusal> {
+    sweep::frame_overrelax(job, size, links)?;
     io::write_all(1, b"frame");
     spaced_decimal(size as u64);
-    spaced_decimal(next.visited as u64);
-    stuck_and_links(next, links);
-    next
+    spaced_decimal(job.visited as u64);
+    stuck_and_links(*job, links);
+    Ok(())
 }
 
-// The first half-sweep, in four frames; the plan after it.
-fn frames(plan: Plan, links: &mut [f64]) -> Plan {
-    let r = sweep::open_overrelax(plan, 0, 0);
-    let job = frame(r.job, 3, links);
-    let job = frame(job, 0, links);
-    let job = frame(job, 9, links);
-    frame(job, ALL, links);
-    r.plan
-}
-
-// The line of a half-sweep, and none where it is not finished.
-fn half_sweep_line(job: Job, links: &[f64]) {
-    let r = sweep::finished(job);
-    if !r.finished {
-        return;
+// The first half-sweep, in four frames.
+fn frames(plan: &mut Plan, links: &mut [f64]) -> Result<(), Refusal> {
+    let mut job = sweep::open_overrelax(plan, 0, 0)?;
+    for size in [3, 0, 9, ALL] {
+        frame(&mut job, size, links)?;
     }
-    io::write_all(1, b"half_sweep");
-    spaced_decimal(job.direction as u64);
-    spaced_decimal(job.parity as u64);
-    stuck_and_links(job, links);
+    Ok(())
 }
 
-// A half-sweep in one frame; the plan after it.
-fn half_sweep(plan: Plan, direction: usize, parity: usize, links: &mut [f64]) -> Plan {
-    let opened = sweep::open_overrelax(plan, direction, parity);
-    let r = sweep::frame_overrelax(opened.job, ALL, links);
-    half_sweep_line(r.job, links);
-    opened.plan
-}
-
-// The seven half-sweeps after the first; the plan after them.
-fn half_sweeps(plan: Plan, links: &mut [f64]) -> Plan {
-    let mut next = plan;
-    for n in 1..8usize {
-        next = half_sweep(next, n / 2, n % 2, links);
+// A half-sweep in one frame. Its line, and none where it is not finished.
+fn half_sweep(
+    plan: &mut Plan,
+    direction: usize,
+    parity: usize,
+    links: &mut [f64],
+) -> Result<(), Refusal> {
+    let mut job = sweep::open_overrelax(plan, direction, parity)?;
+    sweep::frame_overrelax(&mut job, ALL, links)?;
+    if sweep::finished(job)? {
+        io::write_all(1, b"half_sweep");
+        spaced_decimal(direction as u64);
+        spaced_decimal(parity as u64);
+        stuck_and_links(job, links);
     }
-    next
+    Ok(())
+}
+
+// The first half-sweep and the seven after it.
+fn whole(plan: &mut Plan, links: &mut [f64]) -> Result<(), Refusal> {
+    frames(plan, links)?;
+    for n in 1..8 {
+        half_sweep(plan, n / 2, n % 2, links)?;
+    }
+    Ok(())
 }
 
 // A whole sweep of a field of a kind, which is made here: the list is one of extents 4, 2, 2, 2.
@@ -91,14 +88,15 @@ pub fn lines(kind: Kind, name: &[u8], links: &mut [f64]) {
     fill(kind, links);
     io::write_all(1, b"sweep ");
     hash_line(name, over_links(links));
-    let plan = Plan {
+    let mut plan = Plan {
         extents: [4, 2, 2, 2],
         coupling: 5.75,
         seed: 0,
         pass: 0,
     };
-    let after = half_sweeps(frames(plan, links), links);
-    io::write_all(1, b"pass");
-    spaced_decimal(after.pass);
-    io::write_all(1, b"\n");
+    if whole(&mut plan, links).is_ok() {
+        io::write_all(1, b"pass");
+        spaced_decimal(plan.pass);
+        io::write_all(1, b"\n");
+    }
 }

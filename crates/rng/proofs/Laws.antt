@@ -1,5 +1,5 @@
 -- `uniform_of` rounds nothing, and the code's product is it. Assumes nothing.
-use Rattle.std.proofs.Common.{◌≡◌, ℕ, ◌*◌, ◌/◌, ◌%◌, ◌^◌, ◌<◌, true, false, pos, negsuc, sym, refl, ap, ◌∙◌, subst, true≢false, lt_of_lt_of_le, mul_assoc, mul_comm, lt_of_mul-lt-mul_right, mul-lt-mul_of_pos_right, mul-pos, one-mul, mul-one, arith, lit≤, pow_pos, pow_mono, shl_lt, lt-ltb}
+use Rattle.std.proofs.Common.{◌≡◌, ℕ, ◌*◌, ◌/◌, ◌%◌, ◌^◌, ◌<◌, true, false, pos, negsuc, sym, refl, ap, ◌∙◌, true≢false, lt_of_lt_of_le, mul_assoc, lt_of_mul-lt-mul_right, mul-lt-mul_of_pos_right, mul-pos, arith, lit≤, pow_pos, pow_mono, shl_lt, lt-ltb}
 use lib.Ieee as Ieee
 use lib.Ieee.{Float, nan, inf, fin, binary64, of_int, of_bits, round, up, down, lt}
 use lib.Ieee.Exact.{HasValue, round_exact}
@@ -24,10 +24,7 @@ fraction_below_one nan n d p h v = absurd v
 fraction_below_one (inf s) n d p h v = absurd v
 fraction_below_one (fin true m e) n d p h v = absurd (true≢false v.0)
 fraction_below_one (fin false m e) n d p h v =
-    lt-ltb (m * up e * 1) (1 * 1 * down e)
-    (lt_of_mul-lt-mul_right d (subst (λ (z : ℕ). z * d < 1 * 1 * down e * d) (sym (mul-one (m * up e)))
-    (subst (λ (z : ℕ). z < 1 * 1 * down e * d) (sym v.1)
-    (subst (λ (z : ℕ). n * down e < z) (mul_comm d (down e) ∙ ap (λ (z : ℕ). z * d) (sym (one-mul (down e)))) (mul-lt-mul_of_pos_right h (down_pos e))))))
+    lt-ltb (m * up e * 1) (1 * 1 * down e) (lt_of_mul-lt-mul_right d (omega (arith, v.1, mul-lt-mul_of_pos_right {m = n} {n = d} h (down_pos e))))
 
 pub uniform_exact : UniformIsExact
 uniform_exact raw h =

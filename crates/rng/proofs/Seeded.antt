@@ -1,15 +1,24 @@
--- A stream from the words that it is worked out by.
-use Rattle.std.proofs.Common.{◌≡◌, ℕ, [], ◌∷◌}
-use lib.Bits.{bit_xor}
-use Rattle.words.specs.Words.{mul64}
-use Rattle.rng.specs.declared.Mixed.{Mixed}
+-- Four steps of splitmix64 make a generator.
+use Rattle.std.proofs.Common.{◌≡◌, ℕ, List, [], ◌∷◌, length, get_or, refl}
 use Rattle.rng.specs.Splitmix.{splitmix_of}
-use Rattle.rng.specs.Stream.{stream_of, key_of, seeded_of}
+use Rattle.rng.specs.Stream.{seeded_of}
 
--- s, p, m, n are the parts of the key; a, b, c, d the four steps from it
-pub seeded : (seed pass mu site : ℕ) {s : Mixed} {p m n : ℕ} {a b c d : Mixed}
-    → s ≡ splitmix_of seed → p ≡ mul64 pass 0xd1b5_4a32_d192_ed03 → m ≡ mul64 mu 0xabc9_8388_fb8f_ac03 → n ≡ mul64 site 0x8cb9_2ba7_2f3d_8dd7
-    → a ≡ splitmix_of (bit_xor (bit_xor (bit_xor s.out p) m) n) → b ≡ splitmix_of a.state → c ≡ splitmix_of b.state → d ≡ splitmix_of c.state
-    → record { s = a.out ∷ b.out ∷ c.out ∷ d.out ∷ [] } ≡ stream_of seed pass mu site
-unfolding stream_of key_of seeded_of
-seeded seed pass mu site h i j k x y z w = rw (w, z, y, x, h, i, j, k)
+pub four : (s : List ℕ) → length s ≡ 4 → s ≡ get_or s 0 0 ∷ get_or s 1 0 ∷ get_or s 2 0 ∷ get_or s 3 0 ∷ []
+four (a ∷ b ∷ c ∷ d ∷ []) l = refl
+four [] l = cc
+four (a ∷ []) l = cc
+four (a ∷ b ∷ []) l = cc
+four (a ∷ b ∷ c ∷ []) l = cc
+four (a ∷ b ∷ c ∷ d ∷ e ∷ s) l = cc
+
+-- x, y, z are the states of the first three steps
+pub seeded : (key : ℕ) (s : List ℕ) (x y z : ℕ) → length s ≡ 4
+    → get_or s 0 0 ≡ (splitmix_of key).out → x ≡ (splitmix_of key).state
+    → get_or s 1 0 ≡ (splitmix_of x).out → y ≡ (splitmix_of x).state
+    → get_or s 2 0 ≡ (splitmix_of y).out → z ≡ (splitmix_of y).state
+    → get_or s 3 0 ≡ (splitmix_of z).out
+    → record { s = s } ≡ seeded_of key
+unfolding seeded_of
+seeded key s x y z l a b c d e f g =
+    let h = four s l in
+    rw (h, a, c, e, g, f, d, b)

@@ -3,16 +3,15 @@ use Rattle.std.specs.Prelude.{◌≡◌, ℕ, ◌/◌, ◌^◌, ◌<◌, true, f
 use Rattle.std.specs.Float.{fin, binary64}
 use Rattle.std.specs.Float.Ieee.{round, lt}
 use Rattle.std.specs.Float.Ieee.Exact.{HasValue}
-use Rattle.rng.specs.Xoshiro.{draw_of}
+use Rattle.rng.specs.Xoshiro.{Draw, draw_of}
 use Rattle.rng.specs.declared.Rng.{Rng}
-use Rattle.rng.specs.declared.Uniform.{Uniform}
 
 -- the f64 nearest to (raw / 2 ^ 11) / 2 ^ 53, where raw / 2 ^ 11 is the whole part
 unfoldable pub uniform_of : ℕ → Float
 unfolding round
 uniform_of raw = round binary64 false (raw / 2 ^ 11) (2 ^ 53)
 
-unfoldable pub uniform_draw_of : Rng → Uniform
+unfoldable pub uniform_draw_of : Rng → Draw Float
 unfolding draw_of uniform_of
 uniform_draw_of g = record { value = uniform_of (draw_of g).value; rng = (draw_of g).rng }
 

@@ -2,7 +2,6 @@
 use Rattle.std.specs.Prelude.{ℕ, [], ◌∷◌, bit_xor, slice_index}
 use Rattle.words.specs.Words.{add64, shl64, rotl}
 use Rattle.rng.specs.declared.Rng.{Rng}
-use Rattle.rng.specs.declared.Draw.{Draw}
 
 -- s[k]
 abbrev pub word : Rng → ℕ → ℕ
@@ -22,6 +21,11 @@ next_of r =
     let s0 = bit_xor (word r 0) s3 in
     record { s = s0 ∷ s1 ∷ bit_xor s2 t ∷ rotl s3 45 ∷ [] }
 
-unfoldable pub draw_of : Rng → Draw
+-- what is drawn, and the generator after it
+pub record Draw (A : Type 0) : Type 0 where
+  pub value : A
+  pub rng : Rng
+
+unfoldable pub draw_of : Rng → Draw ℕ
 unfolding result_of next_of
 draw_of r = record { value = result_of r; rng = next_of r }

@@ -1,5 +1,5 @@
 -- Squares and powers of two, in order. Assumes nothing.
-use Rattle.std.proofs.Common.{◌≡◌, ℕ, suc, ◌*◌, ◌^◌, ◌<◌, ◌≤◌, refl, lt_of_lt_of_le, lt_of_le_of_lt, le_of_lt, lt_irrefl, mul_assoc, mul_comm, mul-le-mul, mul-le-mul_left, mul-lt-mul_of_pos_right, lt_of_not-le, not-le_of_lt, mul_left_comm, arith, pow_mono}
+use Rattle.std.proofs.Common.{◌≡◌, ℕ, suc, ◌*◌, ◌^◌, ◌<◌, ◌≤◌, lt_of_lt_of_le, lt_irrefl, lt_of_not-le, not-le_of_lt, arith, pow_mono}
 use lib.Pow.{pow-lt}
 
 pub le_of_lt_suc : {x y : ℕ} → x < suc y → x ≤ y
@@ -9,22 +9,16 @@ pub le_of_not_lt : {x y : ℕ} → (y < x → ⊥) → x ≤ y
 le_of_not_lt f = le_of_lt_suc (lt_of_not-le f)
 
 pub squares : (a b : ℕ) → a * b * (a * b) ≡ a * a * (b * b)
-squares a b = simp (mul_assoc, mul_comm, mul_left_comm) refl
+squares a b = omega arith
 
 pub sq_mono : {a b : ℕ} → a ≤ b → a * a ≤ b * b
-sq_mono h = mul-le-mul h h
-
-pub product_lt : (a b m n : ℕ) → a < m → b < n → a * b < m * n
-product_lt a b m n h k = lt_of_le_of_lt (mul-le-mul_left a (le_of_lt k)) (mul-lt-mul_of_pos_right h (pos_of b n k))
-  where
-    pos_of : (b n : ℕ) → b < n → 0 < n
-    pos_of b n k = omega arith
+sq_mono h = grind arith
 
 pub sq_lt : {a b : ℕ} → a < b → a * a < b * b
-sq_lt {a} {b} l = product_lt a a b b l l
+sq_lt l = grind arith
 
 pub sq_lt_back : (a b : ℕ) → a * a < b * b → a < b
-sq_lt_back a b h = lt_of_not-le (λ (g : b ≤ a). not-le_of_lt h (sq_mono g))
+sq_lt_back a b h = grind arith
 
 pub pow_lt_back : (i j : ℕ) → 2 ^ i < 2 ^ j → i < j
 pow_lt_back i j h = lt_of_not-le (λ (g : j ≤ i). not-le_of_lt h (pow_mono g))

@@ -1,9 +1,9 @@
 -- The cases of `sqrt`, by its tests. Assumes nothing.
-use Rattle.std.proofs.Common.{◌≡◌, ℕ, zero, suc, ◌+◌, ◌-◌, ◌*◌, ◌/◌, ◌%◌, ◌^◌, ◌<◌, ◌≤◌, Bool, true, false, not, ◌&&◌, ◌||◌, T, eqb, ltb, leb, ◌⊎◌, ℤ, pos, sym, refl, ap, ◌∙◌, subst, inl, inr, ⊎_elim, true≢false, le_trans, le_of_eq, lt_of_lt_of_le, lt_irrefl, mul-le-mul_right, mod-eq_of_lt, zero-lt-suc, div-lt_iff_lt-mul, mul-lt-mul_of_pos_right, mul-pos, one-mul, le-div_iff_mul-le, zero-mul, mul-one, mul_right_comm, not-le_of_lt, div-one, arith, eqb→eq, ltb→lt, leb→le, pow_pos, pow-add, le-ltb, lt-ltb, eq-eqb}
+use Rattle.std.proofs.Common.{◌≡◌, ℕ, zero, suc, ◌+◌, ◌-◌, ◌*◌, ◌/◌, ◌^◌, ◌<◌, ◌≤◌, Bool, true, false, not, ◌&&◌, ◌||◌, T, eqb, ltb, ◌⊎◌, ℤ, pos, sym, refl, ap, ◌∙◌, subst, inl, inr, ⊎_elim, true≢false, le_trans, le_of_eq, lt_of_lt_of_le, lt_irrefl, mul-le-mul_right, mod-eq_of_lt, zero-lt-suc, div-lt_iff_lt-mul, mul-lt-mul_of_pos_right, mul-pos, one-mul, le-div_iff_mul-le, zero-mul, mul-one, mul_right_comm, not-le_of_lt, div-one, arith, eqb→eq, pow_pos, pow-add, le-ltb, lt-ltb}
 use mathlib.Core.Bool.{beq, false≢true}
-use lib.Ieee.{Float, nan, inf, fin, binary64, up, down, size, lt, eq, div, fits, is_nan, to_bits, of_bits, nan_bits}
+use lib.Ieee.{Float, nan, inf, fin, binary64, up, down, size, lt, eq, div, fits, to_bits, of_bits, nan_bits}
 use lib.Ieee.Digits.{size-le}
-use lib.Ieee.Fits.{kept-lt, down_pos, up_pos, and_l, and_r}
+use lib.Ieee.Fits.{kept-lt, down_pos, up_pos}
 use lib.Ieee.Bits.{of_bits-to_bits, nan_bits_above}
 use Rattle.root.specs.Sqrt.{sqrt_units, sqrt_of}
 use Rattle.root.specs.Parts.{units_bits}
@@ -34,7 +34,7 @@ pub record PositiveFinite (x : Float) : Type 0 where
   pub is : x ≡ fin false (suc m) e
 
 below_zero : (e : ℤ) → ltb (0 * down e) (0 * up e * 1) ≡ false
-below_zero e = ap (λ (z : ℕ). ltb (0 * down e) (z * 1)) (zero-mul (up e)) ∙ le-ltb (0 * down e) 0 (omega arith)
+below_zero e = grind arith
 
 -- a value above zero is finite, or it is the infinity
 above_zero : (x : Float) → lt (fin false 0 (pos 0)) x ≡ true → PositiveFinite x ⊎ (x ≡ inf false)
@@ -67,15 +67,7 @@ pub at_zero : (x : Float) → eq x plus_zero ≡ true → x ≡ sqrt_of x
 at_zero x p = at_zero' x (subst (λ (z : Float). eq x z ≡ true) plus_zero_is p)
 
 zeros_equal : (s : Bool) (e : ℤ) → (eqb (0 * up e * 1) (0 * down e) && (beq s false || eqb (0 * up e * 1) 0)) ≡ true
-zeros_equal s e = both (eqb (0 * up e * 1) (0 * down e)) (beq s false) (eqb (0 * up e * 1) 0) (eq-eqb (0 * up e * 1) (0 * down e) (z ∙ sym (zero-mul (down e)))) (eq-eqb (0 * up e * 1) 0 z)
-  where
-    z : 0 * up e * 1 ≡ 0
-    z = mul-one (0 * up e) ∙ zero-mul (up e)
-
-    both : (a b c : Bool) → a ≡ true → c ≡ true → (a && (b || c)) ≡ true
-    both true true c p q = refl
-    both true false c p q = q
-    both false b c p q = absurd (false≢true p)
+zeros_equal s e = grind arith
 
 at_nan' : (x : Float) → lt (fin false 0 (pos 0)) x ≡ false → eq x (fin false 0 (pos 0)) ≡ false → sqrt_of x ≡ nan
 unfolding lt eq sqrt_of
@@ -126,16 +118,7 @@ pub record FitsParts (m : ℕ) (e : ℤ) : Type 0 where
 
 pub fits_parts : (s : Bool) (m : ℕ) (e : ℤ) → T (fits binary64 (fin s (suc m) e)) → FitsParts (suc m) e
 unfolding fits
-fits_parts s m e t =
-    let a = eqb (suc m % 2) 1 in
-    let b = ltb (suc m) (2 ^ 53) in
-    let c = leb (down e) (2 ^ 1074) in
-    let d = ltb (suc m * up e) (2 ^ 1024 * down e) in
-    record {
-      short = ltb→lt (suc m) (2 ^ 53) (and_r a b (and_l (a && b) c (and_l (a && b && c) d t)));
-      coarse = leb→le (down e) (2 ^ 1074) (and_r (a && b) c (and_l (a && b && c) d t));
-      small = ltb→lt (suc m * up e) (2 ^ 1024 * down e) (and_r (a && b && c) d t);
-    }
+fits_parts s m e t = grind arith
 
 pub bits_in : (x : Float) → T (fits binary64 x) → PositiveFinite x → In (to_bits binary64 x)
 bits_in x t b =
@@ -164,13 +147,3 @@ root_of_bits x r t b h =
 pub no_nan_bits : (r : ℕ) → r < infinity → T (not (nan_bits binary64 r))
 no_nan_bits r h =
     subst (λ (b : Bool). T (not b)) (sym (nan_bits_above binary64 r ∙ ap (λ (z : ℕ). ltb infinity z) (mod-eq_of_lt (below_sign r h)) ∙ le-ltb infinity r (omega arith))) tt
-
--- a value above zero is no NaN
-above_nan : (x : Float) → lt (fin false 0 (pos 0)) x ≡ true → T (not (is_nan x))
-unfolding lt is_nan
-above_nan nan p = absurd (false≢true p)
-above_nan (inf s) p = tt
-above_nan (fin s m e) p = tt
-
-pub above_not_nan : (x : Float) → lt plus_zero x ≡ true → T (not (is_nan x))
-above_not_nan x p = above_nan x (subst (λ (z : Float). lt z x ≡ true) plus_zero_is p)

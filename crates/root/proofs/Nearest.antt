@@ -1,5 +1,5 @@
 -- `sqrt_of x` is the value of the format nearest to √x (`sqrt_of_nearest`), for each positive finite x that the format holds, and it is the only one (`nearest_unique`). Assumes nothing.
-use Rattle.std.proofs.Common.{◌≡◌, ℕ, zero, suc, ◌+◌, ◌-◌, ◌*◌, ◌/◌, ◌%◌, ◌^◌, ◌<◌, ◌≤◌, true, false, T, ℤ, pos, negsuc, sym, refl, ap, ◌∙◌, subst, true≢false, le_trans, le_of_eq, lt_of_lt_of_le, lt_of_le_of_lt, add-zero, le_of_lt, lt_irrefl, mul-le-mul_right, mul_assoc, mul_comm, add-mul, add_comm, le_antisymm, lt_of_mul-lt-mul_right, mul-lt-mul_of_pos_right, mul-pos, lt_of_not-le, zero-mul, mul-one, mul-add, not-le_of_lt, mul-div_cancel, mul_left_comm, arith, pow_pos, pow_mono, pow-add}
+use Rattle.std.proofs.Common.{◌≡◌, ℕ, zero, suc, ◌+◌, ◌-◌, ◌*◌, ◌/◌, ◌%◌, ◌^◌, ◌<◌, ◌≤◌, true, false, T, ℤ, pos, negsuc, sym, refl, ap, ◌∙◌, subst, true≢false, le_trans, le_of_eq, lt_of_lt_of_le, lt_of_le_of_lt, add-zero, le_of_lt, lt_irrefl, mul-le-mul_right, mul_assoc, mul_comm, add_comm, le_antisymm, lt_of_mul-lt-mul_right, mul-lt-mul_of_pos_right, mul-pos, lt_of_not-le, zero-mul, mul-one, not-le_of_lt, mul-div_cancel, arith, pow_pos, pow_mono, pow-add}
 use native.Mathlib.Nat.{eq_of_mul-eq-mul_right}
 use native.Mathlib.Decide.{dec_le}
 use lib.Ieee.{Float, nan, inf, fin, binary64, up, down, size, odd, fits, to_bits, of_bits}
@@ -13,7 +13,7 @@ use Rattle.root.specs.Parts.{units_bits}
 use Rattle.root.specs.Nearest.{Units, NearestRoot, SquareRoot, OnlySquareRoot}
 use Rattle.root.proofs.WholeRoot.{root_is}
 use Rattle.root.proofs.Arith.{le_of_not_lt, squares, sq_mono, sq_lt, pow_le_back}
-use Rattle.root.proofs.Significand.{parts_of}
+use Rattle.root.proofs.PatternParts.{parts_of}
 use Rattle.root.proofs.Scaling.{sqrt_units_at, scaled_in, scaled_same, nearest_is}
 use Rattle.root.proofs.Assemble.{bits_of}
 use Rattle.root.proofs.Patterns.{sqrt_of_bits, bits_units}
@@ -86,7 +86,7 @@ next_below c j k p C P h = go (dec_le k j)
 
 -- q * P and the next multiple of P, added
 twice_middle : (q P : ℕ) → (2 * q + 1) * P ≡ q * P + (q + 1) * P
-twice_middle q P = simp (mul-add, add-mul, mul_assoc, mul_comm, mul_left_comm) (omega arith)
+twice_middle q P = omega arith
 
 -- with P for 2 ^ k
 over : (B q P a : ℕ) → 0 < P → IsNearestRoot B q → (q + 1) * P ≤ a → 4 * (B * (P * P)) < (q * P + a) * (q * P + a)
@@ -98,7 +98,7 @@ over B q P a Z n h =
     (le_trans (le_of_eq (sym (squares (2 * q + 1) P))) (sq_mono s))
   where
     wide : (q : ℕ) → IsNearestRoot B q → 4 * B < (2 * q + 1) * (2 * q + 1)
-    wide q n = let e : (2 * q + 1) * (2 * q + 1) ≡ 4 * (q * q) + 4 * q + 1 = simp (mul-add, add-mul, mul_assoc, mul_comm, mul_left_comm) (omega arith) in omega arith
+    wide q n = grind arith
 
 under : (B p P a : ℕ) → 0 < P → IsNearestRoot B (p + 1) → a ≤ p * P → ((p + 1) * P + a) * ((p + 1) * P + a) < 4 * (B * (P * P))
 under B p P a Z n h =
@@ -107,10 +107,7 @@ under B p P a Z n h =
     (lt_of_lt_of_le (mul-lt-mul_of_pos_right {m = (2 * p + 1) * (2 * p + 1)} {n = 4 * B} (narrow p n) (mul-pos Z Z)) (le_of_eq (mul_assoc 4 B (P * P))))
   where
     narrow : (p : ℕ) → IsNearestRoot B (p + 1) → (2 * p + 1) * (2 * p + 1) < 4 * B
-    narrow p n =
-        let e : (2 * p + 1) * (2 * p + 1) ≡ 4 * (p * p) + 4 * p + 1 = simp (mul-add, add-mul, mul_assoc, mul_comm, mul_left_comm) (omega arith) in
-        let f : (p + 1) * (p + 1) ≡ p * p + 2 * p + 1 = simp (mul-add, add-mul, mul_assoc, mul_comm, mul_left_comm) (omega arith) in
-        omega arith
+    narrow p n = grind arith
 
 -- at a power of two the values below are closer together, but there √x is no less than q
 under_power : (B q P a : ℕ) → 0 < P → q * q ≤ B → a < q * P → (q * P + a) * (q * P + a) < 4 * (B * (P * P))
@@ -121,7 +118,7 @@ under_power B q P a Z n h =
     more v w a e l = omega arith
 
     four : (q : ℕ) → q * q ≤ B → 2 * q * (2 * q) ≤ 4 * B
-    four q l = let e : 2 * q * (2 * q) ≡ 4 * (q * q) = simp (mul_assoc, mul_comm, mul_left_comm) (omega arith) in omega arith
+    four q l = omega arith
 
 -- ---- the root of a value of n units, where n * 2 ^ 1074 is B * 4 ^ k
 
@@ -169,7 +166,7 @@ sqrt_of_nearest x t w =
       v = q * 2 ^ (h + 1);
       x_is = subst (λ (z : Float). Units z false n) same (bits_units b i.1);
       r_is = subst (λ (z : Float). Units z false (q * 2 ^ (h + 1))) (sym (root_is ∙ is)) (odd_sign 53 false q (h + 1) 1074);
-      held = subst (λ (z : Float). T (fits binary64 z)) ((bits_of b m g q p near.0 near.1 near.2).0 ∙ sym root_is) (of_bits-fits binary64 ((g / 2 - 26) * 2 ^ 52 + q));
+      held = subst (λ (z : Float). T (fits binary64 z)) (bits_of b m g a q p refl s.0 s.1 near.0 near.1 near.2 ∙ sym root_is) (of_bits-fits binary64 ((g / 2 - 26) * 2 ^ 52 + q));
       above = λ y c f u. (close c (few y c f u)).0;
       below = λ y c f u. (close c (few y c f u)).1;
       negative = λ y c f u. lt_of_le_of_lt (sq_mono (less (q * 2 ^ (h + 1)) c)) (subst (λ (z : ℕ). z * z < 4 * (n * 2 ^ 1074)) (add-zero (q * 2 ^ (h + 1))) ((close 0 no_units).1 (mul-pos (above_zero q near.1) (pow_pos (h + 1)))));

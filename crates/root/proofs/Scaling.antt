@@ -1,13 +1,13 @@
 -- `sqrt_units` by the number that the code takes the root of: where n * 2 ^ 1074 is a * 2 ^ 54 * 4 ^ h, with an a of 53 or 54 digits, and q is the whole number nearest to the root of a * 2 ^ 52,
 -- the root is q * 2 ^ (h + 1) units. Assumes nothing.
-use Rattle.std.proofs.Common.{◌≡◌, ℕ, zero, suc, ◌+◌, ◌-◌, ◌*◌, ◌/◌, ◌%◌, ◌^◌, ◌<◌, ◌≤◌, false, sym, refl, ap, ◌∙◌, subst, le_trans, le_of_eq, lt_of_lt_of_le, lt_of_le_of_lt, mul_assoc, mul_comm, div-lt_iff_lt-mul, add-mul, le_antisymm, lt_of_mul-lt-mul_right, mul-le-mul_left, mul-pos, one-mul, lt_of_not-le, le-div_iff_mul-le, mul-add, div-mul-le_self, le_of_mul-le-mul_right, mul_left_comm, arith, pow_pos, pow-add}
+use Rattle.std.proofs.Common.{◌≡◌, ℕ, zero, suc, ◌+◌, ◌-◌, ◌*◌, ◌/◌, ◌%◌, ◌^◌, ◌<◌, ◌≤◌, false, sym, refl, ap, ◌∙◌, subst, le_trans, le_of_eq, lt_of_lt_of_le, lt_of_le_of_lt, mul_assoc, div-lt_iff_lt-mul, le_antisymm, lt_of_mul-lt-mul_right, mul-pos, le-div_iff_mul-le, div-mul-le_self, le_of_mul-le-mul_right, arith, pow_pos, pow-add}
 use native.Mathlib.Nat.{lt-div-mul-add}
 use lib.Ieee.{size, odd}
 use lib.Ieee.Digits.{size-lt, size-le}
 use Rattle.root.specs.Root.{root, IsRoot, IsNearestRoot}
 use Rattle.root.specs.Sqrt.{sqrt_units}
 use Rattle.root.proofs.WholeRoot.{root_is}
-use Rattle.root.proofs.Arith.{le_of_lt_suc, squares, sq_mono, sq_lt_back, pow_lt_back}
+use Rattle.root.proofs.Arith.{squares, sq_mono, sq_lt_back, pow_lt_back}
 
 -- ---- a root with its last digits cut off
 
@@ -20,7 +20,7 @@ root_cut n p R P h =
     )
   where
     grown : (q m : ℕ) → (q + 1) * m ≡ q * m + m
-    grown q m = add-mul q 1 m ∙ ap (λ (x : ℕ). q * m + x) (one-mul m)
+    grown q m = omega arith
 
     up : (a b c : ℕ) → c ≡ a + b → R < a + b → R + 1 ≤ c
     up a b c e l = omega arith
@@ -48,9 +48,7 @@ size_root h R lo hi =
 pub halved : (b Q q : ℕ) → 0 < q → IsRoot (4 * b) Q → IsNearestRoot b q → (Q + 1) / 2 ≡ q
 halved b Q zero P r n = absurd (omega arith)
 halved b Q (suc p) P r n =
-    let e1 : (2 * p + 1) * (2 * p + 1) ≡ 4 * (p * p) + 4 * p + 1 = simp (mul-add, add-mul, mul_assoc, mul_comm, mul_left_comm) (omega arith) in
-    let e2 : (2 * p + 1 + 2) * (2 * p + 1 + 2) ≡ 4 * (p * p) + 12 * p + 9 = simp (mul-add, add-mul, mul_assoc, mul_comm, mul_left_comm) (omega arith) in
-    let e3 : suc p * suc p ≡ p * p + 2 * p + 1 = ap (λ (x : ℕ). x * x) (plus p) ∙ simp (mul-add, add-mul, mul_assoc, mul_comm, mul_left_comm) (omega arith) in
+    let e3 : suc p * suc p ≡ (p + 1) * (p + 1) = ap (λ (x : ℕ). x * x) (plus p) in
     let lo : 2 * p + 1 < Q + 1 = sq_lt_back (2 * p + 1) (Q + 1) (omega arith) in
     let hi : Q < 2 * p + 1 + 2 = sq_lt_back Q (2 * p + 1 + 2) (omega arith) in
     omega arith
@@ -58,26 +56,10 @@ halved b Q (suc p) P r n =
     plus : (p : ℕ) → suc p ≡ p + 1
     plus p = omega arith
 
--- the code roots a * 2 ^ 54, which is that for b = a * 2 ^ 52
-four_times : (a : ℕ) → a * 2 ^ 54 ≡ 4 * (a * 2 ^ 52)
-four_times a = omega arith
-
 -- ---- the bounds of the root of a number of 107 or 108 digits
 
 pub root_bounds : (a Q : ℕ) → 2 ^ 52 ≤ a → a < 2 ^ 54 → IsRoot (a * 2 ^ 54) Q → (2 ^ 53 ≤ Q) × (Q < 2 ^ 54)
-root_bounds a Q lo hi h = (
-  below (2 ^ 53) Q (sq_lt_back (2 ^ 53) (Q + 1) (lt_of_le_of_lt (lower a lo) h.1)),
-  sq_lt_back Q (2 ^ 54) (lt_of_le_of_lt h.0 (upper a hi)),
-)
-  where
-    below : (x y : ℕ) → x < y + 1 → x ≤ y
-    below x y h = omega arith
-
-    lower : (a : ℕ) → 2 ^ 52 ≤ a → 2 ^ 53 * 2 ^ 53 ≤ a * 2 ^ 54
-    lower a h = omega arith
-
-    upper : (a : ℕ) → a < 2 ^ 54 → a * 2 ^ 54 < 2 ^ 54 * 2 ^ 54
-    upper a h = omega arith
+root_bounds a Q lo hi h = grind arith
 
 -- ---- the law
 
@@ -96,7 +78,7 @@ sqrt_units_at n a h q lo hi e P near =
     sqrt_units_is n
     ∙ ap (λ (k : ℕ). odd 53 false ((R / 2 ^ k + 1) / 2) (size R - 53) 1074) k1
     ∙ ap (λ (k : ℕ). odd 53 false ((R / 2 ^ h + 1) / 2) k 1074) k2
-    ∙ ap (λ (x : ℕ). odd 53 false x (h + 1) 1074) (halved (a * 2 ^ 52) (R / 2 ^ h) q P (subst (λ (x : ℕ). IsRoot x (R / 2 ^ h)) (four_times a) is) near)
+    ∙ ap (λ (x : ℕ). odd 53 false x (h + 1) 1074) (halved (a * 2 ^ 52) (R / 2 ^ h) q P (omega arith, omega arith) near)
   where
     minus54 : (z h : ℕ) → z ≡ suc (53 + h) → z - 54 ≡ h
     minus54 z h e = omega arith
@@ -107,54 +89,29 @@ sqrt_units_at n a h q lo hi e P near =
 -- ---- the nearest whole number is half of the root of four times as much, rounded up
 
 pub near_half : (b Q : ℕ) → 0 < Q → IsRoot (4 * b) Q → IsNearestRoot b ((Q + 1) / 2)
-near_half b Q P r = go ((Q + 1) / 2) ((Q + 1) % 2) (parts Q) (two Q)
+near_half b Q P r = go ((Q + 1) / 2) ((Q + 1) % 2) (omega arith) (omega arith)
   where
-    parts : (Q : ℕ) → Q + 1 ≡ 2 * ((Q + 1) / 2) + (Q + 1) % 2
-    parts Q = omega arith
-
-    two : (Q : ℕ) → (Q + 1) % 2 < 2
-    two Q = omega arith
-
-    even : (q : ℕ) → Q ≡ 2 * q → IsNearestRoot b q
-    even q e =
-        let f : Q * Q ≡ 4 * (q * q) = ap (λ (x : ℕ). x * x) e ∙ simp (mul_assoc, mul_comm, mul_left_comm) (omega arith) in
-        let g : (Q + 1) * (Q + 1) ≡ 4 * (q * q) + 4 * q + 1 = ap (λ (x : ℕ). (x + 1) * (x + 1)) e ∙ simp (mul-add, add-mul, mul_assoc, mul_comm, mul_left_comm) (omega arith) in
-        (omega arith, omega arith)
-
-    odd' : (p : ℕ) → Q ≡ 2 * p + 1 → IsNearestRoot b (p + 1)
-    odd' p e =
-        let f : Q * Q ≡ 4 * (p * p) + 4 * p + 1 = ap (λ (x : ℕ). x * x) e ∙ simp (mul-add, add-mul, mul_assoc, mul_comm, mul_left_comm) (omega arith) in
-        let g : (Q + 1) * (Q + 1) ≡ 4 * (p * p) + 8 * p + 4 = ap (λ (x : ℕ). (x + 1) * (x + 1)) e ∙ simp (mul-add, add-mul, mul_assoc, mul_comm, mul_left_comm) (omega arith) in
-        let k : (p + 1) * (p + 1) ≡ p * p + 2 * p + 1 = simp (mul-add, add-mul, mul_assoc, mul_comm, mul_left_comm) (omega arith) in
-        (omega arith, omega arith)
+    square : (x : ℕ) → Q ≡ x → Q * Q ≡ x * x
+    square x e = ap (λ (x : ℕ). x * x) e
 
     go : (q s : ℕ) → Q + 1 ≡ 2 * q + s → s < 2 → IsNearestRoot b q
-    go q (suc zero) e l = even q (omega arith)
+    go q (suc zero) e l = let f = square (2 * q) (omega arith) in (omega arith, omega arith)
     go zero zero e l = absurd (omega arith)
-    go (suc p) zero e l = subst (λ (x : ℕ). IsNearestRoot b x) (plus p) (odd' p (omega arith))
-      where
-        plus : (p : ℕ) → p + 1 ≡ suc p
-        plus p = omega arith
+    go (suc p) zero e l = let f = square (2 * p + 1) (omega arith) in (omega arith, omega arith)
     go q (suc (suc s)) e l = absurd (omega arith)
 
--- ---- what `nearest_root` returns
+-- ---- what `nearest` returns
 pub nearest_is : (a Q : ℕ) → 2 ^ 52 ≤ a → a < 2 ^ 54 - 1 → IsRoot (a * 2 ^ 54) Q → IsNearestRoot (a * 2 ^ 52) ((Q + 1) / 2) × (2 ^ 52 ≤ (Q + 1) / 2) × ((Q + 1) / 2 < 2 ^ 53)
 nearest_is a Q lo hi h =
     let b = root_bounds a Q lo (omega arith) h in
-    let l : Q < 2 ^ 54 - 1 = sq_lt_back Q (2 ^ 54 - 1) (lt_of_le_of_lt h.0 (room a hi)) in
-    (near_half (a * 2 ^ 52) Q (omega arith) (subst (λ (x : ℕ). IsRoot x Q) (four_times a) h), omega arith, omega arith)
-  where
-    room : (a : ℕ) → a < 2 ^ 54 - 1 → a * 2 ^ 54 < (2 ^ 54 - 1) * (2 ^ 54 - 1)
-    room a h = omega arith
+    let l : Q < 2 ^ 54 - 1 = grind arith in
+    (near_half (a * 2 ^ 52) Q (omega arith) (omega arith, omega arith), omega arith, omega arith)
 
--- ---- what `root_bits` takes the root of
+-- ---- what `Pattern::root` takes the root of
 
 pub scaled_in : (m g : ℕ) → 2 ^ 52 ≤ m → m < 2 ^ 53 → (2 ^ 52 ≤ m * 2 ^ (g % 2)) × (m * 2 ^ (g % 2) < 2 ^ 54 - 1)
-scaled_in m g lo hi = go (g % 2) (two g)
+scaled_in m g lo hi = go (g % 2) (omega arith)
   where
-    two : (g : ℕ) → g % 2 < 2
-    two g = omega arith
-
     go : (s : ℕ) → s < 2 → (2 ^ 52 ≤ m * 2 ^ s) × (m * 2 ^ s < 2 ^ 54 - 1)
     go zero l = (omega arith, omega arith)
     go (suc zero) l = (omega arith, omega arith)
@@ -173,14 +130,4 @@ scaled_same m g l =
 
 -- the nearest whole number has 53 digits
 pub near_in : (a q : ℕ) → 2 ^ 52 ≤ a → a < 2 ^ 54 - 1 → IsNearestRoot (a * 2 ^ 52) q → (2 ^ 52 ≤ q) × (q < 2 ^ 53)
-near_in a q lo hi n = (le_of_lt_suc (lt_of_not-le (λ (g : suc q ≤ 2 ^ 52). small q g n)), lt_of_not-le (λ (g : 2 ^ 53 ≤ q). large q g n))
-  where
-    small : (q : ℕ) → suc q ≤ 2 ^ 52 → IsNearestRoot (a * 2 ^ 52) q → ⊥
-    small q g n =
-        let s : q * q ≤ q * (2 ^ 52 - 1) = mul-le-mul_left q (omega arith) in
-        omega arith
-
-    large : (q : ℕ) → 2 ^ 53 ≤ q → IsNearestRoot (a * 2 ^ 52) q → ⊥
-    large q g n =
-        let s : q * 2 ^ 53 ≤ q * q = mul-le-mul_left q g in
-        omega arith
+near_in a q lo hi n = grind arith

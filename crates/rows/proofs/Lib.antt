@@ -1,2 +1,3 @@
 pub mod Laws
 pub mod Finite
+pub mod Refusals

@@ -1,5 +1,5 @@
 -- The numbers of the scope's table of refusals.
-use Rattle.std.specs.Prelude.{ℕ}
+use Rattle.std.specs.Prelude.{ℕ, Option, None, Some}
 use Rattle.rows.specs.declared.Refusal.{Refusal}
 
 unfoldable pub row_of : Refusal → ℕ
@@ -18,3 +18,8 @@ row_of Refusal.Room = 12
 row_of Refusal.Densities = 13
 row_of Refusal.NoMean = 14
 row_of Refusal.Input = 15
+
+-- 0 where there is no refusal
+unfoldable pub number_in : Option Refusal → ℕ
+number_in None = 0
+number_in (Some refusal) = row_of refusal

@@ -27,6 +27,11 @@ unfoldable pub refusal_in : {A : Type 0} → Result A Refusal → Option Refusal
 refusal_in (Ok value) = None
 refusal_in (Err refusal) = Some refusal
 
+-- the value that an answer carries, or what stands for it where it is refused
+unfoldable pub value_or : {A : Type 0} → A → Result A Refusal → A
+value_or refused (Ok value) = value
+value_or refused (Err refusal) = refused
+
 -- the answer of a check: the first refusal of the rows, and where there is none what is made of the inputs
 pub record Checked {A : Type 0} (rows : List (Bool × Refusal)) (Made : A → Type 0) (r : Result A Refusal) : Type 0 where
   pub refusal : refusal_in r ≡ first_refusal rows

@@ -1,10 +1,11 @@
 // Answers that are a number or a refusal. A row is one of the scope's table of refusals, by its number.
-#![tactic(auto, unfolding(crate::specs::Numbers::row_of))]
+#![tactic(auto, unfolding(crate::specs::Numbers::row_of, crate::specs::Numbers::number_in, crate::specs::Refusals::refusal_in, crate::specs::Refusals::value_or))]
 
 ghost use Rattle.std.specs.Prelude.{◌≡◌};
 ghost use Rattle.std.specs.Float.Ieee.Scale.{finite};
 ghost use Rattle.rows.specs.Answers.{count_refusal, count_value, number_refusal, number_value};
-ghost use Rattle.rows.specs.Numbers.{row_of};
+ghost use Rattle.rows.specs.Refusals.{refusal_in, value_or};
+ghost use Rattle.rows.specs.Numbers.{row_of, number_in};
 
 use std::fmt;
 
@@ -72,6 +73,27 @@ impl fmt::Display for Refusal {
             Refusal::NoMean => "there is nothing to divide by",
             Refusal::Input => "the input is not four bytes, or has more than 64 sites",
         })
+    }
+}
+
+// The row that refuses a call, and 0 where none does: for a host that has no enums.
+pub fn row<T: Copy>(answer: Result<T, Refusal>) -> u32
+    ensures { result ≡ number_in (refusal_in answer) }
+{
+    match answer {
+        Ok(_) => 0,
+        Err(refusal) => u32::from(refusal),
+    }
+}
+
+// The row, and the answer's value, or what stands for it where the call is refused.
+pub fn row_and_value<T: Copy>(answer: Result<T, Refusal>, refused: T) -> (u32, T)
+    ensures row { result.0 ≡ number_in (refusal_in answer) }
+    ensures value { result.1 ≡ value_or refused answer }
+{
+    match answer {
+        Ok(value) => (0, value),
+        Err(refusal) => (u32::from(refusal), refused),
     }
 }
 

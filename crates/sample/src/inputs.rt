@@ -24,20 +24,6 @@ pub enum Kind {
     Units,
 }
 
-// A number drawn, and the generator after it.
-#[derive(Clone, Copy)]
-struct DrawnNumber {
-    value: f64,
-    rng: Rng,
-}
-
-// A matrix drawn, and the generator after it.
-#[derive(Clone, Copy)]
-struct DrawnMatrix {
-    value: Su3,
-    rng: Rng,
-}
-
 // What the calls on matrices take.
 #[derive(Clone, Copy)]
 pub struct Pair {
@@ -56,35 +42,21 @@ fn unit(draw: u64) -> f64 {
     }
 }
 
-fn number(set: Set, g: Rng) -> DrawnNumber {
-    let d = g.next_u64();
-    let rng = d.rng;
+fn number(set: Set, rng: &mut Rng) -> f64 {
     match set {
-        Set::Raw => DrawnNumber {
-            value: 2.0 * rng::uniform_of(d.value) - 1.0,
-            rng,
-        },
-        Set::Units => DrawnNumber {
-            value: unit(d.value),
-            rng,
-        },
+        Set::Raw => 2.0 * rng.uniform() - 1.0,
+        Set::Units => unit(rng.next_u64()),
     }
 }
 
-fn matrix(set: Set, g: Rng) -> DrawnMatrix {
-    let mut m = Su3::ZERO.m;
-    let mut rng = g;
-    for k in 0..9 {
-        let re = number(set, rng);
-        let im = number(set, re.rng);
-        m[k] = C64 {
-            re: re.value,
-            im: im.value,
-        };
-        rng = im.rng;
+fn matrix(set: Set, rng: &mut Rng) -> Su3 {
+    Su3 {
+        m: std::array::from_fn(|_| {
+            let re = number(set, rng);
+            let im = number(set, rng);
+            C64 { re, im }
+        }),
     }
-    let value = Su3 { m };
-    DrawnMatrix { value, rng }
 }
 
 // Pair number i of a set.
@@ -93,13 +65,12 @@ pub fn pair_at(set: Set, i: u64) -> Pair {
         Set::Raw => 0,
         Set::Units => 1,
     };
-    let a = matrix(set, Rng::stream(SEED, i, mu, 0));
-    let b = matrix(set, a.rng);
-    let left = a.value;
-    let right = b.value;
+    let mut rng = Rng::stream(SEED, i, mu, 0);
+    let a = matrix(set, &mut rng);
+    let b = matrix(set, &mut rng);
     Pair {
-        a: left,
-        b: right,
+        a,
+        b,
         subgroup: (i % 4) as usize,
     }
 }
@@ -159,30 +130,25 @@ fn spoilt(u: Su3, draw: u64) -> Su3 {
 }
 
 // One link in sixteen is spoilt: one more draw decides that, and the next one how and where.
-fn damaged(u: Su3, g: Rng) -> Su3 {
-    let d = g.next_u64();
-    if d.value >> 60 != 0 {
+fn damaged(u: Su3, rng: &mut Rng) -> Su3 {
+    if rng.next_u64() >> 60 != 0 {
         return u;
     }
-    let how = d.rng.next_u64();
-    spoilt(u, how.value)
+    spoilt(u, rng.next_u64())
 }
 
 // The link of a direction at a site.
 pub fn link(kind: Kind, mu: u64, site: u64) -> Su3 {
-    let raw = matrix(Set::Raw, Rng::stream(SEED, 0, mu, site));
-    let u = raw.value;
+    let mut rng = Rng::stream(SEED, 0, mu, site);
+    let u = matrix(Set::Raw, &mut rng);
     match kind {
         Kind::Cold => Su3::IDENTITY,
         Kind::Raw => u,
         Kind::Group => u.reunitarize(),
         Kind::Smooth => Su3::IDENTITY.add(u.scale(0.1)).reunitarize(),
-        Kind::Damaged => damaged(u.reunitarize(), raw.rng),
+        Kind::Damaged => damaged(u.reunitarize(), &mut rng),
         // 1.25 * 2^127
         Kind::Huge => u.scale(212676479325586539664609129644855132160.0),
-        Kind::Units => {
-            let units = matrix(Set::Units, Rng::stream(SEED, 2, mu, site));
-            units.value
-        }
+        Kind::Units => matrix(Set::Units, &mut Rng::stream(SEED, 2, mu, site)),
     }
 }

@@ -4,10 +4,11 @@
 ghost use Rattle.std.specs.Prelude.{◌≡◌, ◌+◌, ◌*◌, ◌≤◌, length};
 ghost use Rattle.geometry.specs.Radix.{volume};
 ghost use Rattle.links.specs.Store.{matrix_at};
-ghost use Rattle.gauge.specs.Field.{link_of, Holds};
+ghost use Rattle.gauge.specs.Field.{link_of};
 ghost use Rattle.sound.specs.Sound.{sound_number, sound_entry, sound_of, unsound_links, Listed};
 
 use complex::C64;
+use gauge::Su3Lattice;
 
 // Whether a number is finite and from -1 to 1. No infinity and no NaN passes the comparisons.
 fn sound_number(x: f64) -> bool
@@ -36,14 +37,14 @@ fn sound(links: &[f64], p: usize) -> bool
 }
 
 // Writes the numbers of the unsound links to the front of a list, and gives their count.
-pub fn list_unsound(links: &[f64], d: [usize; 4], found: &mut [u32]) -> usize
-    requires { Holds d links.now × (4 * volume d ≤ length found.old) }
-    ensures { Listed (unsound_links d (link_of d links.now)) found.old result found.new }
+pub fn list_unsound(lattice: &Su3Lattice, found: &mut [u32]) -> usize
+    requires { 4 * volume lattice.now.extents.d ≤ length found.old }
+    ensures listed { Listed (unsound_links lattice.now.extents.d (link_of lattice.now.extents.d lattice.now.links.now)) found.old result found.new }
+    ensures few { result ≤ 4 * volume lattice.now.extents.d }
 {
-    let v = geometry::sites(d);
     let mut count = 0;
-    for k in 0..4 * v {
-        if !sound(links, 18 * k) {
+    for k in 0..4 * lattice.extents.sites() {
+        if !sound(lattice.links, 18 * k) {
             found[count] = k as u32;
             count += 1;
         }

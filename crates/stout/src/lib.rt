@@ -1,21 +1,23 @@
-// Stout smearing of one link of a field that fits: the list holds a field of extents d, and site and
-// direction are in range.
-#![tactic(auto)]
+// Stout smearing of one link of a field.
+#![tactic(auto, unfolding(crate::specs::Stout::stout_of, crate::specs::Stout::exponent_of))]
 
-ghost use Rattle.std.specs.Prelude.{◌≡◌};
-ghost use Rattle.gauge.specs.Field.{link_of, Link};
+ghost use Rattle.std.specs.Prelude.{◌≡◌, ◌<◌};
+ghost use Rattle.geometry.specs.Radix.{volume};
+ghost use Rattle.gauge.specs.Field.{link_of};
 ghost use Rattle.stout.specs.Stout.{stout_of};
 
+use gauge::Su3Lattice;
 use mat::Su3;
 
 // The smeared link, from the links of the list as they are.
-pub fn stout_link(links: &[f64], d: [usize; 4], n: usize, mu: usize, rho: f64, terms: u32) -> Su3
-    requires { Link d links.now n mu }
-    ensures { result ≡ stout_of d (link_of d links.now) terms rho n mu }
+pub fn stout_link(lattice: Su3Lattice<'_>, n: usize, mu: usize, rho: f64, terms: u32) -> Su3
+    requires { (n < volume lattice.extents.d) × (mu < 4) }
+    ensures { let d = lattice.entry.extents.d in result ≡ stout_of d (link_of d lattice.entry.links.now) terms rho n mu }
 {
-    let u = links::link(links, geometry::sites(d), mu, n);
+    let Su3Lattice { extents, links } = lattice;
+    let u = links::link(links, extents.sites(), mu, n);
     let x = u
-        .mul(gauge::staple(links, d, n, mu))
+        .mul(gauge::staple(links, extents.d, n, mu))
         .traceless_antihermitian();
     Su3::exp_series(x.scale(-rho), terms).reunitarize().mul(u)
 }

@@ -1,16 +1,13 @@
 -- The clover field strength: the four plaquettes of a plane that touch a site, and what their sum gives.
-use Rattle.std.specs.Prelude.{ℕ, List, [], ◌∷◌, ◌≡◌, Float}
+use Rattle.std.specs.Prelude.{ℕ, List, [], ◌∷◌, Float}
 use Rattle.std.specs.Float.{binary64}
 use Rattle.std.specs.Float.Ieee.{of_bits}
 use Rattle.mat.specs.declared.Su3.{Su3}
 use Rattle.mat.specs.Matrix.{add_of, scale_of}
 use Rattle.mat.specs.Product.{mul_of, mul_dag_of, dag_mul_of}
 use Rattle.mat.specs.Traceless.{traceless_of}
-use Rattle.geometry.specs.declared.Neighbours.{Neighbours}
-use Rattle.geometry.specs.Radix.{volume}
-use Rattle.geometry.specs.Steps.{fwd_of, bwd_of, neighbours_of}
+use Rattle.geometry.specs.Steps.{fwd_of, bwd_of}
 use Rattle.links.specs.Field.{Field}
-use Rattle.gauge.specs.Field.{Plane}
 use Rattle.gauge.specs.Plaquette.{plaquette_of}
 
 -- ## The leaves, all with the same orientation. The first is the plaquette at n.
@@ -51,11 +48,3 @@ strengths_of d U n = F 0 1 ∷ F 0 2 ∷ F 0 3 ∷ F 1 2 ∷ F 1 3 ∷ F 2 3 ∷
   where
     F : ℕ → ℕ → Su3
     F mu nu = strength_of d U n mu nu
-
--- ## What the functions ask for: a plane of two directions, the number of sites, and the site's neighbours
-
-pub record Around (d : List ℕ) (l : List Float) (v n mu nu : ℕ) (near : Neighbours) : Type 0 where
-  pub plane : Plane d l n mu nu
-  pub apart : nu ≡ mu → ⊥
-  pub sites : v ≡ volume d
-  pub sides : near ≡ neighbours_of d n

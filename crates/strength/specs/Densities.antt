@@ -1,16 +1,13 @@
 -- The densities at a site, in lattice units.
-use Rattle.std.specs.Prelude.{ℕ, suc, ◌<◌, List, ◌≡◌, Float}
+use Rattle.std.specs.Prelude.{ℕ, suc, ◌<◌, List, Float}
+use Rattle.std.specs.Coded.{Unit-prop, le_prop}
 use Rattle.std.specs.Float.{binary64}
 use Rattle.std.specs.Float.Ieee.{div, neg, of_bits}
 use Rattle.mat.specs.declared.Su3.{Su3}
 use Rattle.complex.specs.Rounded.{◌⊞◌, ◌⊟◌, ◌⊠◌, fzero}
 use Rattle.mat.specs.Matrix.{re_tr}
 use Rattle.mat.specs.Product.{mul_of}
-use Rattle.geometry.specs.declared.Neighbours.{Neighbours}
-use Rattle.geometry.specs.Radix.{volume}
-use Rattle.geometry.specs.Steps.{neighbours_of}
 use Rattle.links.specs.Field.{Field}
-use Rattle.gauge.specs.Field.{Holds}
 use Rattle.strength.specs.declared.Density.{Density}
 use Rattle.strength.specs.Clover.{strength_of}
 
@@ -60,9 +57,8 @@ InSpace Density.Action = Unit {0}
 InSpace Density.Charge = Unit {0}
 InSpace (Density.Electric axis) = axis < 3
 
--- what the functions ask for: the number of sites, and the site's neighbours
-pub record AtSite (d : List ℕ) (l : List Float) (v n : ℕ) (near : Neighbours) : Type 0 where
-  pub holds : Holds d l
-  pub below : n < volume d
-  pub sites : v ≡ volume d
-  pub sides : near ≡ neighbours_of d n
+pub InSpace-prop : (kind : Density) → IsProp (InSpace kind)
+unfolding InSpace
+InSpace-prop Density.Action = Unit-prop
+InSpace-prop Density.Charge = Unit-prop
+InSpace-prop (Density.Electric axis) = le_prop

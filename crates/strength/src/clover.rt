@@ -1,106 +1,142 @@
-ghost use Rattle.std.specs.Prelude.{◌≡◌};
-ghost use Rattle.links.specs.Field.{field_of};
-ghost use Rattle.gauge.specs.Field.{link_of};
-ghost use Rattle.gauge.specs.Plaquette.{Corners};
-ghost use Rattle.strength.specs.Clover.{upper_left, lower_left, lower_right, clover_of, strength_of, strengths_of, Around};
-ghost use Rattle.strength.specs.Densities.{AtSite};
+#![tactic(auto, using(geometry::proofs::Shape::volume_high, geometry::proofs::Neighbour::near_up, geometry::proofs::Neighbour::near_down, geometry::proofs::Neighbour::fwd_below, geometry::proofs::Neighbour::bwd_below, geometry::proofs::Neighbour::up_down, geometry::proofs::Neighbour::down_up, geometry::proofs::Neighbour::down_down, crate::proofs::Corners::up_down_low, crate::proofs::Corners::down_up_low, crate::proofs::Corners::down_down_low), unfolding(gauge::specs::Plaquette::plaquette_of, crate::specs::Clover::clover_of, crate::specs::Clover::strength_of, crate::specs::Clover::strengths_of))]
 
-use geometry::Neighbours;
+ghost use Rattle.std.specs.Prelude.{◌≡◌, ◌<◌};
+ghost use Rattle.geometry.specs.Radix.{volume};
+ghost use Rattle.geometry.specs.Steps.{fwd_of, bwd_of};
+ghost use Rattle.gauge.specs.Field.{link_of};
+ghost use Rattle.strength.specs.Clover.{upper_left, lower_left, lower_right, clover_of, strength_of, strengths_of};
+
+use crate::{Plane, Site};
 use mat::Su3;
 
-// U_ν(n) U_μ†(w) U_ν†(b) U_μ(b): b is n - mu, w is n + nu - mu.
-fn upper_left(links: &[f64], v: usize, mu: usize, nu: usize, n: usize, b: usize, w: usize) -> Su3
-    requires { Corners links.now v mu nu n b w }
-    ensures { result ≡ upper_left (field_of v links.now) mu nu n b w }
-{
-    links::link(links, v, nu, n)
-        .mul_dag(links::link(links, v, mu, w))
-        .mul_dag(links::link(links, v, nu, b))
-        .mul(links::link(links, v, mu, b))
+impl Site<'_> {
+    // U_μ(m) for any site m.
+    fn link(&self, mu: usize, m: usize) -> Su3
+        requires { (mu < 4) × (m < volume self.now.lattice.extents.d) }
+        ensures { let l = self.now.lattice in result ≡ link_of l.extents.d l.links.now mu m }
+    {
+        links::link(self.lattice.links, self.v, mu, m)
+    }
+
+    // n + mu
+    fn up(&self, mu: usize) -> usize
+        requires { mu < 4 }
+        ensures step { result ≡ fwd_of self.now.lattice.extents.d self.now.n mu }
+        ensures below { result < volume self.now.lattice.extents.d }
+    {
+        self.near.up[mu]
+    }
+
+    // n - mu
+    fn down(&self, mu: usize) -> usize
+        requires { mu < 4 }
+        ensures step { result ≡ bwd_of self.now.lattice.extents.d self.now.n mu }
+        ensures below { result < volume self.now.lattice.extents.d }
+    {
+        self.near.down[mu]
+    }
+
+    // In the six planes.
+    pub fn field_strength_at(&self) -> [Su3; 6]
+        ensures { let l = self.now.lattice in result ≡ strengths_of l.extents.d (link_of l.extents.d l.links.now) self.now.n }
+    {
+        [
+            self.plane(0, 1).strength(),
+            self.plane(0, 2).strength(),
+            self.plane(0, 3).strength(),
+            self.plane(1, 2).strength(),
+            self.plane(1, 3).strength(),
+            self.plane(2, 3).strength(),
+        ]
+    }
 }
 
-// U_μ†(b) U_ν†(w) U_μ(w) U_ν(c): b is n - mu, c is n - nu, w is n - mu - nu.
-fn lower_left(links: &[f64], v: usize, mu: usize, nu: usize, b: usize, c: usize, w: usize) -> Su3
-    requires { Corners links.now v mu nu b c w }
-    ensures { result ≡ lower_left (field_of v links.now) mu nu b c w }
-{
-    let x = links::link(links, v, nu, w).mul(links::link(links, v, mu, b));
-    let y = links::link(links, v, mu, w).mul(links::link(links, v, nu, c));
-    x.dag_mul(y)
-}
+// A corner's number is a sum where mu and nu differ: n - mu + nu is (n - mu) + (n + nu) - n.
+impl Plane<'_> {
+    // n + nu - mu
+    fn above_left(&self) -> usize
+        ensures corner { let d = self.now.site.now.lattice.extents.d in result ≡ bwd_of d (fwd_of d self.now.site.now.n self.now.nu) self.now.mu }
+        ensures below { result < volume self.now.site.now.lattice.extents.d }
+    {
+        self.site.up(self.nu) + self.site.down(self.mu) - self.site.n
+    }
 
-// U_ν†(c) U_μ(c) U_ν(w) U_μ†(n): c is n - nu, w is n - nu + mu.
-fn lower_right(links: &[f64], v: usize, mu: usize, nu: usize, n: usize, c: usize, w: usize) -> Su3
-    requires { Corners links.now v mu nu n c w }
-    ensures { result ≡ lower_right (field_of v links.now) mu nu n c w }
-{
-    let x = links::link(links, v, nu, c).dag_mul(links::link(links, v, mu, c));
-    let y = links::link(links, v, nu, w).mul_dag(links::link(links, v, mu, n));
-    x.mul(y)
-}
+    // n - mu - nu
+    fn below_left(&self) -> usize
+        ensures corner { let d = self.now.site.now.lattice.extents.d in result ≡ bwd_of d (bwd_of d self.now.site.now.n self.now.mu) self.now.nu }
+        ensures below { result < volume self.now.site.now.lattice.extents.d }
+    {
+        self.site.down(self.mu) + self.site.down(self.nu) - self.site.n
+    }
 
-// The sum of the four leaves, the plaquette first. A corner's number is a sum where mu and nu differ:
-// n - mu + nu is (n - mu) + (n + nu) - n.
-pub fn clover_leaves(
-    links: &[f64],
-    d: [usize; 4],
-    v: usize,
-    n: usize,
-    mu: usize,
-    nu: usize,
-    near: Neighbours,
-) -> Su3
-    requires { Around d links.now v n mu nu near }
-    ensures { result ≡ clover_of d (link_of d links.now) n mu nu }
-{
-    let up = near.up;
-    let down = near.down;
-    let f = up[mu];
-    let u = up[nu];
-    let b = down[mu];
-    let c = down[nu];
-    let l1 = gauge::plaquette_at(links, v, mu, nu, n, f, u);
-    let l2 = upper_left(links, v, mu, nu, n, b, u + b - n);
-    let l3 = lower_left(links, v, mu, nu, b, c, b + c - n);
-    let l4 = lower_right(links, v, mu, nu, n, c, c + f - n);
-    l1.add(l2).add(l3).add(l4)
-}
+    // n - nu + mu
+    fn below_right(&self) -> usize
+        ensures corner { let d = self.now.site.now.lattice.extents.d in result ≡ fwd_of d (bwd_of d self.now.site.now.n self.now.nu) self.now.mu }
+        ensures below { result < volume self.now.site.now.lattice.extents.d }
+    {
+        self.site.down(self.nu) + self.site.up(self.mu) - self.site.n
+    }
 
-// F_μν at a site.
-pub fn strength(
-    links: &[f64],
-    d: [usize; 4],
-    v: usize,
-    n: usize,
-    mu: usize,
-    nu: usize,
-    near: Neighbours,
-) -> Su3
-    requires { Around d links.now v n mu nu near }
-    ensures { result ≡ strength_of d (link_of d links.now) n mu nu }
-{
-    clover_leaves(links, d, v, n, mu, nu, near)
-        .traceless_antihermitian()
-        .scale(0.25)
-}
+    // U_ν(n) U_μ†(w) U_ν†(b) U_μ(b): b is n - mu, w is n + nu - mu.
+    fn upper_left(&self) -> Su3
+        ensures { let l = self.now.site.now.lattice in let d = l.extents.d in let n = self.now.site.now.n in let mu = self.now.mu in let nu = self.now.nu in result ≡ upper_left (link_of d l.links.now) mu nu n (bwd_of d n mu) (bwd_of d (fwd_of d n nu) mu) }
+    {
+        let Plane { site, mu, nu } = *self;
+        let b = site.down(mu);
+        site.link(nu, site.n)
+            .mul_dag(site.link(mu, self.above_left()))
+            .mul_dag(site.link(nu, b))
+            .mul(site.link(mu, b))
+    }
 
-// In the six planes.
-pub fn field_strength_at(
-    links: &[f64],
-    d: [usize; 4],
-    v: usize,
-    n: usize,
-    near: Neighbours,
-) -> [Su3; 6]
-    requires { AtSite d links.now v n near }
-    ensures { result ≡ strengths_of d (link_of d links.now) n }
-{
-    [
-        strength(links, d, v, n, 0, 1, near),
-        strength(links, d, v, n, 0, 2, near),
-        strength(links, d, v, n, 0, 3, near),
-        strength(links, d, v, n, 1, 2, near),
-        strength(links, d, v, n, 1, 3, near),
-        strength(links, d, v, n, 2, 3, near),
-    ]
+    // U_μ†(b) U_ν†(w) U_μ(w) U_ν(c): b is n - mu, c is n - nu, w is n - mu - nu.
+    fn lower_left(&self) -> Su3
+        ensures { let l = self.now.site.now.lattice in let d = l.extents.d in let n = self.now.site.now.n in let mu = self.now.mu in let nu = self.now.nu in result ≡ lower_left (link_of d l.links.now) mu nu (bwd_of d n mu) (bwd_of d n nu) (bwd_of d (bwd_of d n mu) nu) }
+    {
+        let Plane { site, mu, nu } = *self;
+        let w = self.below_left();
+        let x = site.link(nu, w).mul(site.link(mu, site.down(mu)));
+        let y = site.link(mu, w).mul(site.link(nu, site.down(nu)));
+        x.dag_mul(y)
+    }
+
+    // U_ν†(c) U_μ(c) U_ν(w) U_μ†(n): c is n - nu, w is n - nu + mu.
+    fn lower_right(&self) -> Su3
+        ensures { let l = self.now.site.now.lattice in let d = l.extents.d in let n = self.now.site.now.n in let mu = self.now.mu in let nu = self.now.nu in result ≡ lower_right (link_of d l.links.now) mu nu n (bwd_of d n nu) (fwd_of d (bwd_of d n nu) mu) }
+    {
+        let Plane { site, mu, nu } = *self;
+        let c = site.down(nu);
+        let x = site.link(nu, c).dag_mul(site.link(mu, c));
+        let y = site
+            .link(nu, self.below_right())
+            .mul_dag(site.link(mu, site.n));
+        x.mul(y)
+    }
+
+    // The sum of the four leaves, the plaquette first.
+    pub fn clover_leaves(&self) -> Su3
+        ensures { let l = self.now.site.now.lattice in result ≡ clover_of l.extents.d (link_of l.extents.d l.links.now) self.now.site.now.n self.now.mu self.now.nu }
+    {
+        let Plane { site, mu, nu } = *self;
+        let l1 = gauge::plaquette_at(
+            site.lattice.links,
+            site.v,
+            mu,
+            nu,
+            site.n,
+            site.up(mu),
+            site.up(nu),
+        );
+        let l2 = self.upper_left();
+        let l3 = self.lower_left();
+        let l4 = self.lower_right();
+        l1.add(l2).add(l3).add(l4)
+    }
+
+    // F_μν.
+    pub fn strength(&self) -> Su3
+        ensures { let l = self.now.site.now.lattice in result ≡ strength_of l.extents.d (link_of l.extents.d l.links.now) self.now.site.now.n self.now.mu self.now.nu }
+    {
+        self.clover_leaves().traceless_antihermitian().scale(0.25)
+    }
 }

@@ -1,13 +1,12 @@
+#![tactic(auto, unfolding(mat::specs::Matrix::re_tr, mat::specs::Product::mul_of, mat::specs::Product::row_col, crate::specs::Densities::trace_product, crate::specs::Densities::plane_density, crate::specs::Densities::electric_of, crate::specs::Densities::action_density_of, crate::specs::Densities::charge_factor, crate::specs::Densities::charge_density_of, crate::specs::Densities::density_of, crate::specs::Densities::InSpace))]
+
 ghost use Rattle.std.specs.Prelude.{◌≡◌, ◌<◌};
 ghost use Rattle.mat.specs.Product.{row_col};
 ghost use Rattle.gauge.specs.Field.{link_of};
-ghost use Rattle.strength.specs.Clover.{Around};
-ghost use Rattle.strength.specs.Densities.{trace_product, plane_density, action_density_of, charge_density_of, density_of, InSpace, AtSite};
+ghost use Rattle.strength.specs.Densities.{trace_product, plane_density, action_density_of, charge_density_of, density_of, InSpace};
 
-use crate::Density;
-use crate::clover::strength;
+use crate::{Density, Plane, Site};
 use complex::C64;
-use geometry::Neighbours;
 use mat::Su3;
 
 // The real part of the i-th entry on the diagonal of a·b.
@@ -31,69 +30,46 @@ fn trace_product(a: Su3, b: Su3) -> f64
     diagonal(a, b, 0) + diagonal(a, b, 1) + diagonal(a, b, 2)
 }
 
-// −Tr F_μν² at a site.
-fn plane_density(
-    links: &[f64],
-    d: [usize; 4],
-    v: usize,
-    n: usize,
-    mu: usize,
-    nu: usize,
-    near: Neighbours,
-) -> f64
-    requires { Around d links.now v n mu nu near }
-    ensures { result ≡ plane_density d (link_of d links.now) n mu nu }
-{
-    let f = strength(links, d, v, n, mu, nu, near);
-    -trace_product(f, f)
+impl Plane<'_> {
+    // −Tr F_μν².
+    fn density(&self) -> f64
+        ensures { let l = self.now.site.now.lattice in result ≡ plane_density l.extents.d (link_of l.extents.d l.links.now) self.now.site.now.n self.now.mu self.now.nu }
+    {
+        let f = self.strength();
+        -trace_product(f, f)
+    }
 }
 
-fn action_density(links: &[f64], d: [usize; 4], v: usize, n: usize, near: Neighbours) -> f64
-    requires { AtSite d links.now v n near }
-    ensures { result ≡ action_density_of d (link_of d links.now) n }
-{
-    0.0 + plane_density(links, d, v, n, 0, 1, near)
-        + plane_density(links, d, v, n, 0, 2, near)
-        + plane_density(links, d, v, n, 0, 3, near)
-        + plane_density(links, d, v, n, 1, 2, near)
-        + plane_density(links, d, v, n, 1, 3, near)
-        + plane_density(links, d, v, n, 2, 3, near)
-}
+impl Site<'_> {
+    fn action_density(&self) -> f64
+        ensures { let l = self.now.lattice in result ≡ action_density_of l.extents.d (link_of l.extents.d l.links.now) self.now.n }
+    {
+        0.0 + self.plane(0, 1).density()
+            + self.plane(0, 2).density()
+            + self.plane(0, 3).density()
+            + self.plane(1, 2).density()
+            + self.plane(1, 3).density()
+            + self.plane(2, 3).density()
+    }
 
-fn charge_density(links: &[f64], d: [usize; 4], v: usize, n: usize, near: Neighbours) -> f64
-    requires { AtSite d links.now v n near }
-    ensures { result ≡ charge_density_of d (link_of d links.now) n }
-{
-    let x = trace_product(
-        strength(links, d, v, n, 0, 1, near),
-        strength(links, d, v, n, 2, 3, near),
-    );
-    let y = trace_product(
-        strength(links, d, v, n, 0, 2, near),
-        strength(links, d, v, n, 1, 3, near),
-    );
-    let z = trace_product(
-        strength(links, d, v, n, 0, 3, near),
-        strength(links, d, v, n, 1, 2, near),
-    );
-    8.0 / (32.0 * 3.141592653589793 * 3.141592653589793) * (x - y + z)
-}
+    fn charge_density(&self) -> f64
+        ensures { let l = self.now.lattice in result ≡ charge_density_of l.extents.d (link_of l.extents.d l.links.now) self.now.n }
+    {
+        let x = trace_product(self.plane(0, 1).strength(), self.plane(2, 3).strength());
+        let y = trace_product(self.plane(0, 2).strength(), self.plane(1, 3).strength());
+        let z = trace_product(self.plane(0, 3).strength(), self.plane(1, 2).strength());
+        8.0 / (32.0 * 3.141592653589793 * 3.141592653589793) * (x - y + z)
+    }
 
-// A density at a site.
-pub fn density_at(
-    links: &[f64],
-    d: [usize; 4],
-    v: usize,
-    n: usize,
-    near: Neighbours,
-    kind: Density,
-) -> f64
-    requires { AtSite d links.now v n near × InSpace kind }
-    ensures { result ≡ density_of d (link_of d links.now) kind n }
-{
-    match kind {
-        Density::Action => action_density(links, d, v, n, near),
-        Density::Charge => charge_density(links, d, v, n, near),
-        Density::Electric(axis) => plane_density(links, d, v, n, 0, axis + 1, near),
+    // A density at the site.
+    pub fn density(&self, kind: Density) -> f64
+        requires { InSpace kind }
+        ensures { let l = self.now.lattice in result ≡ density_of l.extents.d (link_of l.extents.d l.links.now) kind self.now.n }
+    {
+        match kind {
+            Density::Action => self.action_density(),
+            Density::Charge => self.charge_density(),
+            Density::Electric(axis) => self.plane(0, axis + 1).density(),
+        }
     }
 }

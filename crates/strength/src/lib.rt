@@ -1,13 +1,15 @@
-// The clover field strength and the densities at a site of a field that fits: the list holds a field
-// of extents d, and sites and directions are in range. A site's neighbours are handed in, so that a walk over
-// all sites needs no division.
+// The clover field strength and the densities at a site of a field.
 #![tactic(auto)]
+
+ghost use Rattle.std.specs.Prelude.{◌≡◌, ◌≢◌, ◌<◌, ◌≤◌};
+ghost use Rattle.geometry.specs.Radix.{volume};
+ghost use Rattle.geometry.specs.Steps.{neighbours_of};
 
 mod clover;
 mod densities;
 
-pub use clover::{clover_leaves, field_strength_at};
-pub use densities::density_at;
+use gauge::Su3Lattice;
+use geometry::Neighbours;
 
 // A density, and for the electric one its axis of space: 0 is x.
 #[derive(Clone, Copy)]
@@ -15,4 +17,52 @@ pub enum Density {
     Action,
     Charge,
     Electric(usize),
+}
+
+// A site of a field, and the sites next to it; v is the number of sites, worked out once.
+#[derive(Clone, Copy)]
+pub struct Site<'a> {
+    pub lattice: Su3Lattice<'a>,
+    pub n: usize,
+    pub near: Neighbours,
+    pub v: usize,
+    ghost sites: { (v ≡ volume lattice.extents.d) × (v ≤ 65536) },
+    ghost below: { n < volume lattice.extents.d },
+    ghost sides: { near ≡ neighbours_of lattice.extents.d n },
+}
+
+// A plane of two directions at a site.
+#[derive(Clone, Copy)]
+pub struct Plane<'a> {
+    pub site: &'a Site<'a>,
+    pub mu: usize,
+    pub nu: usize,
+    ghost axis: { mu < 4 },
+    ghost other: { nu < 4 },
+    ghost apart: { nu ≢ mu },
+}
+
+impl<'a> Site<'a> {
+    pub fn new(lattice: Su3Lattice<'a>, n: usize) -> Self
+        requires { n < volume lattice.extents.d }
+        ensures field { result.lattice ≡ lattice.entry }
+        ensures place { result.n ≡ n }
+    {
+        let near = steps::neighbours(lattice.extents.d, n);
+        let v = lattice.extents.sites();
+        Site {
+            lattice,
+            n,
+            near,
+            v,
+        }
+    }
+
+    pub fn plane(&self, mu: usize, nu: usize) -> Plane<'_>
+        requires { (mu < 4) × (nu < 4) × (nu ≢ mu) }
+        ensures site { result.site.now ≡ self.now }
+        ensures axes { (result.mu ≡ mu) × (result.nu ≡ nu) }
+    {
+        Plane { site: self, mu, nu }
+    }
 }

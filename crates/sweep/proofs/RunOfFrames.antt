@@ -1,15 +1,8 @@
 -- The proof of specs/RunOfFrames.antt: after frames that add up to s, job and links are those of s visits.
-use Prim.Native.Nat.{ℕ, ◌+◌, ◌*◌, ◌<◌, ◌≤◌, min}
-use mathlib.Core.List.{List, [], ◌∷◌, ◌++◌}
-use mathlib.Core.Path.{◌≡◌, refl, ap, sym, ◌∙◌}
+use Rattle.std.proofs.Common.{ℕ, ◌+◌, ◌*◌, ◌<◌, ◌≤◌, min, List, [], ◌∷◌, ◌++◌, None, Some, false, ◌≡◌, refl, ap, sym, ◌∙◌, zero-add, arith, Float, length, take-add, take_all}
 use native.Mathlib.Decide.{dec_lt}
-use native.Mathlib.Nat.{zero-add}
-use native.Mathlib.Omega.{arith}
-use lib.Ieee.{Float}
-use lib.ListN.{length}
-use lib.Seq.{take-add, take_all}
-use Rattle.rows.specs.Rows.{first_row, if_accepted}
-use Rattle.rows.proofs.Laws.{no_row, row_holds, row_passes}
+use Rattle.rows.specs.declared.Refusal.{Refusal}
+use Rattle.rows.specs.Refusals.{first_refusal, answered, unless}
 use Rattle.geometry.specs.Radix.{volume}
 use Rattle.geometry.specs.Order.{sites_of, half_of}
 use Rattle.geometry.proofs.Order.{count_sites}
@@ -18,7 +11,7 @@ use Rattle.gauge.proofs.Lists.{Same, length-list, links_of}
 use Rattle.lattice.specs.declared.Plan.{Plan}
 use Rattle.field_checks.proofs.Laws.{bad_links_lem, good_links}
 use Rattle.visits.specs.Visits.{stuck_among, segment, overrelax, overrelaxed_field, stuck_count}
-use Rattle.sweep.specs.Jobs.{InRange, new_job, counted, open_call, open_row, frame_row, frame_sites, frame_answer, frame_links, finished_rows, finished_call}
+use Rattle.sweep.specs.Jobs.{new_job, counted, open_call, open_refusal, bad_job, frame_refusal, frame_sites, frame_answer, frame_links, finished_rows, finished_call}
 use Rattle.sweep.specs.RunOfFrames.{Frame, RunState, opened, answer_of, next, run, accepted_sum, OthersMisfit, Answered, first_sites, Swept, FramesAreVisits}
 use Rattle.sweep.proofs.Laws.{good_job, Accepted, accepted_opening}
 use Rattle.visits.proofs.Visited.{visited_in, visited_out}
@@ -39,28 +32,22 @@ module _ (q : Plan) (mu p : ℕ) (l₀ : List Float) (ok : Accepted q mu p) (len
   first_count : (s : ℕ) → s ≤ half_of q.extents → length (first_sites q.extents p s) ≡ s
   first_count s h = length_part q.extents p ok.shape ok.two 0 s ∙ omega arith
 
-  in_range : (s : ℕ) → s ≤ half_of q.extents → InRange (state_at s).job
-  in_range s h = record {
-    visited = h;
-    stuck = few_stuck q.extents p ok.shape ok.two mu (link_of q.extents l₀) 0 s refl;
-    direction = ok.axis;
-    parity = ok.two;
-  }
+  good : (s : ℕ) → s ≤ half_of q.extents → bad_job (state_at s).job ≡ false
+  good s h = good_job (state_at s).job h (few_stuck q.extents p ok.shape ok.two mu (link_of q.extents l₀) 0 s refl) ok.axis ok.two
 
   -- ## its rows
 
-  takes : (s : ℕ) → s ≤ half_of q.extents → frame_row (state_at s).job (links_after s) ≡ 0
-  takes s h =
-      row_passes 1 _ ok.extents
-      ∙ row_passes 3 _ (good_links q.extents (length-list q.extents _))
-      ∙ row_passes 8 [] (good_job (state_at s).job (in_range s h))
-      ∙ no_row
+  takes : (s : ℕ) → s ≤ half_of q.extents → frame_refusal (state_at s).job (links_after s) ≡ None
+  unfolding first_refusal
+  takes s h = rw (ok.extents, good_links q.extents (length-list q.extents (overrelaxed_field q.extents mu (link_of q.extents l₀) (first_sites q.extents p s))), good s h)
 
-  refuses : (s : ℕ) (l : List Float) → (length l ≡ 72 * volume q.extents → ⊥) → frame_row (state_at s).job l ≡ 3
-  refuses s l n = row_passes 1 _ ok.extents ∙ row_holds 3 _ (bad_links_lem q.extents n)
+  refuses : (s : ℕ) (l : List Float) → (length l ≡ 72 * volume q.extents → ⊥) → frame_refusal (state_at s).job l ≡ Some Refusal.Length
+  unfolding first_refusal
+  refuses s l n = rw (ok.extents, bad_links_lem q.extents n)
 
-  asked : (s : ℕ) → s ≤ half_of q.extents → first_row (finished_rows (state_at s).job) ≡ 0
-  asked s h = row_passes 1 _ ok.extents ∙ row_passes 8 [] (good_job (state_at s).job (in_range s h)) ∙ no_row
+  asked : (s : ℕ) → s ≤ half_of q.extents → first_refusal (finished_rows (state_at s).job) ≡ None
+  unfolding first_refusal
+  asked s h = rw (ok.extents, good s h)
 
   -- ## a call takes one state to another
 
@@ -98,11 +85,11 @@ module _ (q : Plan) (mu p : ℕ) (l₀ : List Float) (ok : Accepted q mu p) (len
   visited_next s n h = ap (λ (k : ℕ). s + k) (length_part q.extents p ok.shape ok.two s n) ∙ omega arith
 
   next_on_field : (s n : ℕ) → s ≤ half_of q.extents → next (state_at s) (Frame.on_field n) ≡ state_at (min (s + n) (half_of q.extents))
-  unfolding frame_answer frame_links frame_sites if_accepted
+  unfolding frame_answer frame_links frame_sites unless
   next_on_field s n h = rw (takes s h, links_next s n, stuck_next s n, visited_next s n h)
 
   next_on_other : (s n : ℕ) (l : List Float) → (length l ≡ 72 * volume q.extents → ⊥) → next (state_at s) (Frame.on_other n l) ≡ state_at s
-  unfolding frame_answer if_accepted
+  unfolding frame_answer unless
   next_on_other s n l w = rw (refuses s l w)
 
   -- ## the whole list of calls, from any state
@@ -112,12 +99,12 @@ module _ (q : Plan) (mu p : ℕ) (l₀ : List Float) (ok : Accepted q mu p) (len
     pub answers : Answered (state_at s) frames
 
   pub ran : (frames : List Frame) (s : ℕ) → s ≤ half_of q.extents → OthersMisfit (72 * volume q.extents) frames → Ran s frames
-  unfolding run accepted_sum Answered OthersMisfit if_accepted
+  unfolding run accepted_sum Answered OthersMisfit unless
   ran [] s h w = let e : s ≡ min (s + 0) (half_of q.extents) = omega arith in record { ends = ap state_at e; answers = tt }
   ran (Frame.on_field n ∷ fs) s h w =
       let e = next_on_field s n h in
       let r = ran fs (min (s + n) (half_of q.extents)) (omega arith) w in
-      let z : (answer_of (state_at s) (Frame.on_field n)).refusal ≡ 0 = unfold frame_answer in takes s h in
+      let z : (answer_of (state_at s) (Frame.on_field n)).refusal ≡ None = unfold frame_answer in takes s h in
       let t = accepted_sum (state_at (min (s + n) (half_of q.extents))) fs in
       let sum : min (min (s + n) (half_of q.extents) + t) (half_of q.extents) ≡ min (s + (n + t)) (half_of q.extents) = omega arith in
       record { ends = rw (e, z) (r.ends ∙ ap state_at sum); answers = (z, rw e r.answers) }
@@ -125,7 +112,7 @@ module _ (q : Plan) (mu p : ℕ) (l₀ : List Float) (ok : Accepted q mu p) (len
       let e = next_on_other s n l w.0 in
       let r = ran fs s h w.1 in
       let row = refuses s l w.0 in
-      let z : (answer_of (state_at s) (Frame.on_other n l)).refusal ≡ 3 = unfold frame_answer in row in
+      let z : (answer_of (state_at s) (Frame.on_other n l)).refusal ≡ Some Refusal.Length = unfold frame_answer in row in
       let job : (answer_of (state_at s) (Frame.on_other n l)).job ≡ (state_at s).job = unfold frame_answer in (rw row) in
       let list : frame_links (state_at s).job n l ≡ l = unfold frame_links in (rw row) in
       let t = accepted_sum (state_at s) fs in
@@ -144,20 +131,20 @@ module _ (q : Plan) (mu p : ℕ) (l₀ : List Float) (ok : Accepted q mu p) (len
     kept = λ nu n a b out. holds s nu n a b ∙ visited_out (overrelax q.extents mu) mu (link_of q.extents l₀) (first_sites q.extents p s) nu n out;
     len = length-list q.extents _;
     job = refl;
-    finished = unfold finished_call if_accepted in rw (asked s h);
+    finished = unfold finished_call answered in rw (asked s h);
   }
 
 -- ## from the opening on
 
-pub opened_state : (q : Plan) (mu p : ℕ) (l : List Float) (ok : Accepted q mu p) (len : length l ≡ 72 * volume q.extents) → open_row q mu p ≡ 0
+pub opened_state : (q : Plan) (mu p : ℕ) (l : List Float) (ok : Accepted q mu p) (len : length l ≡ 72 * volume q.extents) → open_refusal q mu p ≡ None
     → opened q mu p l ≡ state_at q mu p l ok len 0
-unfolding open_call if_accepted stuck_among
+unfolding open_call unless stuck_among
 opened_state q mu p l ok len e =
     rw e (ap (λ (x : List Float). record { job = new_job q mu p; links = x }) (visits_none q.extents mu l len))
 
 pub frames_are_visits : FramesAreVisits
 frames_are_visits q mu p l frames opening misfit =
-    let row : open_row q mu p ≡ 0 = unfold open_call in opening.accepted in
+    let row : open_refusal q mu p ≡ None = unfold open_call in opening.accepted in
     let ok = accepted_opening q mu p opening.four row in
     let start = opened_state q mu p l ok opening.fits row in
     let r = ran q mu p l ok opening.fits frames 0 (omega arith) misfit in

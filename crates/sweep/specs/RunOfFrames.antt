@@ -1,16 +1,16 @@
 -- A half-sweep in frames, as one claim about the whole list of its frame calls (the scope document's demand 3).
-use Rattle.std.specs.Prelude.{ℕ, ◌+◌, ◌*◌, ◌<◌, min, ◌≡◌, eqb, Float, length, take}
+use Rattle.std.specs.Prelude.{ℕ, ◌+◌, ◌*◌, ◌<◌, min, ◌≡◌, eqb, Float, length, take, None, Some, Ok}
 use mathlib.Core.List.{List, [], ◌∷◌, Mem}
-use Rattle.rows.specs.Rows.{if_accepted}
+use Rattle.rows.specs.declared.Refusal.{Refusal}
+use Rattle.rows.specs.Refusals.{unless}
 use Rattle.geometry.specs.Radix.{volume}
 use Rattle.geometry.specs.Order.{sites_of, half_of}
 use Rattle.links.specs.Field.{Field}
 use Rattle.gauge.specs.Field.{link_of}
 use Rattle.lattice.specs.declared.Plan.{Plan}
 use Rattle.sweep.specs.declared.Job.{Job}
-use Rattle.sweep.specs.declared.Framed.{Framed}
 use Rattle.visits.specs.Visits.{visited_link, stuck_among}
-use Rattle.sweep.specs.Jobs.{new_job, open_call, update_by, counted, frame_answer, frame_links, finished_call}
+use Rattle.sweep.specs.Jobs.{Framed, new_job, open_call, update_by, counted, frame_answer, frame_links, finished_call}
 
 -- ## A run
 
@@ -48,7 +48,7 @@ run b (f ∷ fs) = run (next b f) fs
 -- the sum of the accepted frames, told by their answers
 unfoldable pub accepted_sum : RunState → List Frame → ℕ
 accepted_sum b [] = 0
-accepted_sum b (f ∷ fs) = if_accepted (answer_of b f).refusal (size_of f) 0 + accepted_sum (next b f) fs
+accepted_sum b (f ∷ fs) = unless (answer_of b f).refusal (size_of f) 0 + accepted_sum (next b f) fs
 
 -- every other list has a wrong length
 unfoldable pub OthersMisfit : ℕ → List Frame → Type 0
@@ -58,12 +58,12 @@ OthersMisfit len (on_other size l ∷ fs) = (length l ≡ len → ⊥) × Others
 
 -- ## What holds after it
 
--- each call's answer: on the field's links accepted; on another list refused by row 3, with the job and that list as they were
+-- each call's answer: on the field's links accepted; on another list refused for its length, with the job and that list as they were
 unfoldable pub Answered : RunState → List Frame → Type 0
 Answered b [] = Unit {0}
-Answered b (on_field size ∷ fs) = ((answer_of b (on_field size)).refusal ≡ 0) × Answered (next b (on_field size)) fs
+Answered b (on_field size ∷ fs) = ((answer_of b (on_field size)).refusal ≡ None) × Answered (next b (on_field size)) fs
 Answered b (on_other size l ∷ fs) =
-    ((answer_of b (on_other size l)).refusal ≡ 3) × ((answer_of b (on_other size l)).job ≡ b.job) × (frame_links b.job size l ≡ l)
+    ((answer_of b (on_other size l)).refusal ≡ Some Refusal.Length) × ((answer_of b (on_other size l)).job ≡ b.job) × (frame_links b.job size l ≡ l)
     × Answered (next b (on_other size l)) fs
 
 -- the first s sites of a parity in ascending order
@@ -84,14 +84,14 @@ pub record Swept (j : Job) (U : Field) (s : ℕ) (b : RunState) : Type 0 where
   -- the job says s visited, and how many of these links are stuck in U; all else stays as opened
   pub job : b.job ≡ counted j s (stuck_among (update_by j) U (first_sites j.extents j.parity s))
   -- it is finished exactly when s is half the sites
-  pub finished : finished_call b.job ≡ record { refusal = 0; finished = eqb s (half_of j.extents) }
+  pub finished : finished_call b.job ≡ Ok (eqb s (half_of j.extents))
 
 -- ## The claim
 
 -- An accepted opening and a list that fits the plan's extents, whatever its contents. A plan's type says that there are four extents; the logic sees a list.
 pub record Opening (q : Plan) (mu p : ℕ) (l : List Float) : Type 0 where
   pub four : length q.extents ≡ 4
-  pub accepted : (open_call q mu p).refusal ≡ 0
+  pub accepted : (open_call q mu p).refusal ≡ None
   pub fits : length l ≡ 72 * volume q.extents
 
 -- s is the smaller of the accepted frames' sum and half the sites

@@ -1,10 +1,5 @@
 -- The update by rows, as the code takes it: what a subgroup leaves of u and w, and what it reads of w.
-use Prim.Native.Nat.{ℕ}
-use mathlib.Core.Bool.{Bool, true, false}
-use mathlib.Core.List.{List, [], ◌∷◌}
-use mathlib.Core.Path.{◌≡◌, refl}
-use lib.Ieee.{Float}
-use lib.ListN.{length}
+use Rattle.std.proofs.Common.{ℕ, Bool, true, false, cond, List, [], ◌∷◌, ◌≡◌, refl, length, Ok, Err}
 use Rattle.complex.specs.declared.C64.{C64}
 use Rattle.quat.specs.declared.Mat2.{Mat2}
 use Rattle.quat.specs.declared.Quat.{Quat}
@@ -14,22 +9,30 @@ use Rattle.complex.specs.Complex.{combination}
 use Rattle.complex.specs.Row.{row_combination}
 use Rattle.mat.specs.Product.{mul_of}
 use Rattle.mat.specs.Unitary.{row_of, of_rows, unitary_of, reunitarize_of}
-use Rattle.quat.specs.Quaternion.{project_of, quat_norm}
+use Rattle.quat.specs.Quaternion.{project_of}
 use Rattle.quat.specs.Subgroup.{subgroup_of, block_of, sub_block, with_row, left_mul_rows, left_mul_sub}
 use Rattle.mat.proofs.Entries.{rows_are}
 use Rattle.update.specs.declared.Stuck.{Stuck}
-use Rattle.update.specs.Update.{stuck_link, is_short, short_norm, reflection_of, if_finite, through_subgroups, update_link_of}
+use Rattle.update.specs.Update.{reflected, short_norm, reflection_of, if_finite, through_subgroups, update_link_of}
 
 -- ## One subgroup
 
-module _ (g : ℕ) (gs : List ℕ) (u w : Su3) {v : Quat} {k : Float} {b : Bool} (block : v ≡ project_of (sub_block w g)) (norm : k ≡ quat_norm v) (test : b ≡ is_short k) where
-  pub ends : b ≡ true → stuck_link Stuck.ShortNorm ≡ through_subgroups (g ∷ gs) u w
-  unfolding through_subgroups short_norm
-  ends h = rw (← block, ← norm, ← test, h)
+module _ (g : ℕ) (gs : List ℕ) (u w : Su3) {v : Quat} (block : v ≡ project_of (sub_block w g)) where
+  pub ends : {e : Stuck} → reflected v ≡ Err e → Err e ≡ through_subgroups (g ∷ gs) u w
+  unfolding through_subgroups reflected
+  ends {e} h = rw (← block) (go (short_norm v) h)
+    where
+      go : (b : Bool) → cond b (Err Stuck.ShortNorm) (Ok (reflection_of v)) ≡ Err e → Err e ≡ cond b (Err Stuck.ShortNorm) (through_subgroups gs (left_mul_sub u g (reflection_of v)) (left_mul_sub w g (reflection_of v)))
+      go true h = cc
+      go false h = cc
 
-  pub goes_on : b ≡ false → {x : Mat2} {u' w' : Su3} → x ≡ reflection_of v → left_mul_sub u g x ≡ u' → left_mul_sub w g x ≡ w' → through_subgroups gs u' w' ≡ through_subgroups (g ∷ gs) u w
-  unfolding through_subgroups short_norm
-  goes_on h e p q = rw (← block, ← norm, ← test, h, ← e, p, q)
+  pub goes_on : {x : Mat2} → reflected v ≡ Ok x → {u' w' : Su3} → left_mul_sub u g x ≡ u' → left_mul_sub w g x ≡ w' → through_subgroups gs u' w' ≡ through_subgroups (g ∷ gs) u w
+  unfolding through_subgroups reflected
+  goes_on {x} h {u'} {w'} p q = rw (← block) (go (short_norm v) h)
+    where
+      go : (b : Bool) → cond b (Err Stuck.ShortNorm) (Ok (reflection_of v)) ≡ Ok x → through_subgroups gs u' w' ≡ cond b (Err Stuck.ShortNorm) (through_subgroups gs (left_mul_sub u g (reflection_of v)) (left_mul_sub w g (reflection_of v)))
+      go true h = cc
+      go false h = cc
 
 -- ## The rows that a subgroup leaves, and the block that it reads
 

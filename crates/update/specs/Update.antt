@@ -1,5 +1,6 @@
 -- The one-link update: `update_link` with `Overrelax`, after Cabibbo and Marinari. Where it has no result, the link is stuck.
-use Rattle.std.specs.Prelude.{ℕ, ◌<◌, Bool, true, false, cond, List, [], ◌∷◌, ◌≡◌, Float}
+use Rattle.std.specs.Prelude.{ℕ, ◌<◌, Bool, cond, List, [], ◌∷◌, ◌≡◌, Float, Result, Ok, Err, is_err}
+use Rattle.std.specs.Result.{result_unwrap_or}
 use Rattle.std.specs.Float.{binary64}
 use Rattle.std.specs.Float.Ieee.{div, lt, of_bits}
 use Rattle.mat.specs.declared.Su3.{Su3}
@@ -15,19 +16,20 @@ use Rattle.geometry.specs.Shape.{Shape}
 use Rattle.geometry.specs.Steps.{parity_of}
 use Rattle.links.specs.Field.{Field}
 use Rattle.update.specs.declared.Stuck.{Stuck}
-use Rattle.update.specs.declared.Updated.{Updated}
 use Rattle.gauge.specs.Staple.{staple_of, SameAround, SameOff}
 
 -- ## Stuck links
 
-unfoldable pub is_stuck : Stuck → Bool
-is_stuck Stuck.No = false
-is_stuck Stuck.ShortNorm = true
-is_stuck Stuck.NotFinite = true
+-- what an update gives: a matrix, or why the link is stuck
+abbrev pub Updated : Type 0
+Updated = Result Su3 Stuck
 
--- a stuck link's update: the cause, and zeros for the matrix
-abbrev pub stuck_link : Stuck → Updated
-stuck_link cause = record { stuck = cause; link = zero_of }
+abbrev pub is_stuck : Updated → Bool
+is_stuck r = is_err r
+
+-- the matrix, or zeros where the link is stuck
+abbrev pub updated_link : Updated → Su3
+updated_link r = result_unwrap_or r zero_of
 
 -- ## The update
 
@@ -53,16 +55,20 @@ is_short k = lt k (of_bits binary64 0x3d71_9799_812d_ea11)
 unfoldable pub short_norm : Quat → Bool
 short_norm v = is_short (quat_norm v)
 
+-- the reflection, unless the norm is short
+unfoldable pub reflected : Quat → Result Mat2 Stuck
+reflected v = cond (short_norm v) (Err Stuck.ShortNorm) (Ok (reflection_of v))
+
 -- a result with a number that isn't finite is a stuck link's
 unfoldable pub if_finite : Su3 → Updated
-if_finite u = cond (finite_matrix u) (record { stuck = Stuck.No; link = u }) (stuck_link Stuck.NotFinite)
+if_finite u = cond (finite_matrix u) (Ok u) (Err Stuck.NotFinite)
 
 -- The subgroups in turn: the first short norm ends the update, else the subgroup's rows of u and of w = u·a are multiplied by X. After the last, u is brought back onto SU(3).
 unfoldable pub through_subgroups : List ℕ → Su3 → Su3 → Updated
 through_subgroups [] u w = if_finite (reunitarize_of u)
 through_subgroups (g ∷ gs) u w =
     let v = project_of (sub_block w g) in
-    cond (short_norm v) (stuck_link Stuck.ShortNorm)
+    cond (short_norm v) (Err Stuck.ShortNorm)
     (through_subgroups gs (left_mul_sub u g (reflection_of v)) (left_mul_sub w g (reflection_of v)))
 
 -- a link u whose staples' sum is a

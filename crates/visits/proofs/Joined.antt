@@ -1,14 +1,6 @@
 -- Overrelaxation of some sites and then of others, from list to list, is that of all of them from the first list.
-use Prim.Native.Nat.{ℕ, suc, ◌+◌, ◌*◌, ◌-◌, ◌<◌, ◌≤◌, min}
-use mathlib.Core.List.{List, [], ◌∷◌, ◌++◌, Mem, Nodup, Disjoint, mem-append_left, mem-append_right, Nodup-append}
-use mathlib.Core.Bool.{true, false, Bool-discrete, true≢false}
-use mathlib.Core.Logic.{if_pos, if_neg}
-use mathlib.Core.Path.{◌≡◌, ap, sym, ◌∙◌, subst}
-use native.Mathlib.Numerals.{add-one}
-use native.Mathlib.Omega.{arith}
-use lib.Ieee.{Float}
-use lib.ListN.{length, take, drop, length-take, length-drop, take-append-drop}
-use lib.Seq.{take-suc, get_or-drop}
+use Rattle.std.proofs.Common.{ℕ, suc, cond, Bool, ◌+◌, ◌*◌, ◌-◌, ◌<◌, ◌≤◌, min, List, [], ◌∷◌, ◌++◌, ◌≡◌, ap, sym, ◌∙◌, subst, arith, Float, length, take, drop, length-take, length-drop, take-append-drop, take-suc, get_or-drop}
+use mathlib.Core.List.{Mem, Nodup, Disjoint, mem-append_left, mem-append_right, Nodup-append}
 use Rattle.geometry.specs.Radix.{volume}
 use Rattle.geometry.specs.Shape.{Shape}
 use Rattle.geometry.specs.Order.{sites_of, half_of, nth_of}
@@ -68,7 +60,7 @@ module _ (d : List ℕ) (p : ℕ) where
 
 module _ (d : List ℕ) (mu : ℕ) where
   pub field_nine : (l : List Float) (a : List ℕ) (nu n : ℕ) → length (overrelaxed_field d mu (link_of d l) a nu n).m ≡ 9
-  field_nine l a = visited_nine (overrelax d mu) mu (link_of d l) (λ nu n. matrix_nine l _) (λ n. unfold update_of in (updated_nine _ _)) a
+  field_nine l a = visited_nine (overrelax d mu) mu (link_of d l) (λ nu n. matrix_nine l _) (λ n old h. unfold update_of in (updated_nine _ _ old h)) a
 
   -- before any visit
   pub visits_none : (l : List Float) → length l ≡ 72 * volume d → l ≡ list_of d (overrelaxed_field d mu (link_of d l) [])
@@ -92,30 +84,27 @@ module _ (d : List ℕ) (shape : Shape d) (mu p : ℕ) (axis : mu < 4) where
         (link_of d l₀) (link_of d l) a b both.first both.second both.apart same)
         ∙ sym (stuck_append (overrelax d mu) (link_of d l₀) a b)
 
--- ## one site more
+-- ## one site more: after those from the from-th on, the k-th
 
 module _ (d : List ℕ) (shape : Shape d) (mu p : ℕ) (axis : mu < 4) (two : p < 2) (l₀ l : List Float) (from k n : ℕ)
-    (room : from + k < half_of d) (site : n ≡ nth_of d p (from + k))
-    (after : l ≡ list_of d (overrelaxed_field d mu (link_of d l₀) (segment d p from k)))
+    (reached : from ≤ k) (room : k < half_of d) (site : n ≡ nth_of d p k)
+    (after : l ≡ list_of d (overrelaxed_field d mu (link_of d l₀) (segment d p from (k - from))))
   where
-    grown : segment d p from (k + 1) ≡ segment d p from k ++ (n ∷ [])
-    grown = rw (add-one k, site) (part_next d p shape two from k room)
+    grown : segment d p from (k + 1 - from) ≡ segment d p from (k - from) ++ (n ∷ [])
+    grown =
+        let more : k + 1 - from ≡ suc (k - from) = omega arith in
+        let here : from + (k - from) ≡ k = omega arith in
+        rw (more, site) (rw here at (part_next d p shape two from (k - from) (omega arith)))
 
-    both : Pieces d p (segment d p from k) (n ∷ [])
-    both = pieces d p from (k + 1) (segment d p from k) (n ∷ []) grown
+    both : Pieces d p (segment d p from (k - from)) (n ∷ [])
+    both = pieces d p from (k + 1 - from) (segment d p from (k - from)) (n ∷ []) grown
 
-    pub visits_next : list_of d (overrelaxed_field d mu (link_of d l) (n ∷ [])) ≡ list_of d (overrelaxed_field d mu (link_of d l₀) (segment d p from (k + 1)))
-    visits_next = rw grown (visits_join d shape mu p axis l₀ l (segment d p from k) (n ∷ []) both after)
+    pub visits_next : list_of d (overrelaxed_field d mu (link_of d l) (n ∷ [])) ≡ list_of d (overrelaxed_field d mu (link_of d l₀) (segment d p from (k + 1 - from)))
+    visits_next = rw grown (visits_join d shape mu p axis l₀ l (segment d p from (k - from)) (n ∷ []) both after)
 
-    pub count_next : stuck_count d mu (link_of d l₀) (segment d p from k) + stuck_count d mu (link_of d l) (n ∷ []) ≡ stuck_count d mu (link_of d l₀) (segment d p from (k + 1))
-    count_next = rw grown (count_join d shape mu p axis l₀ l (segment d p from k) (n ∷ []) both after)
-
--- it is stuck or not
-module _ (d : List ℕ) (mu : ℕ) (U : Field) (n : ℕ) where
-  pub one_stuck : is_stuck (update_of d U n mu).stuck ≡ true → stuck_count d mu U (n ∷ []) ≡ 1
-  unfolding stuck_among
-  one_stuck e = ap length (if_pos (Bool-discrete (is_stuck (update_of d U n mu).stuck) true) e (n ∷ []) [])
-
-  pub one_free : is_stuck (update_of d U n mu).stuck ≡ false → stuck_count d mu U (n ∷ []) ≡ 0
-  unfolding stuck_among
-  one_free e = ap length (if_neg (Bool-discrete (is_stuck (update_of d U n mu).stuck) true) (λ h. true≢false (sym h ∙ e)) (n ∷ []) [])
+    pub count_next : {s : ℕ} → s ≡ stuck_count d mu (link_of d l₀) (segment d p from (k - from))
+        → {b : Bool} → b ≡ is_stuck (update_of d (link_of d l) n mu) → s + cond b 1 0 ≡ stuck_count d mu (link_of d l₀) (segment d p from (k + 1 - from))
+    unfolding stuck_among
+    count_next e f =
+        let all = count_join d shape mu p axis l₀ l (segment d p from (k - from)) (n ∷ []) both after in
+        rw (grown, ← all, e, f) (omega arith)

@@ -1,24 +1,21 @@
 -- Visits one after another are visits all at once, for any update that reads, of the links that are visited, its own alone.
-use Prim.Native.Nat.{ℕ, ◌+◌, ◌<◌, ◌≤◌}
-use mathlib.Core.Bool.{Bool, true, false, Bool-discrete}
+use Rattle.std.specs.Result.{result_unwrap_or}
+use Rattle.std.proofs.lemmas.List.Sums.{sum_by-cons, sum_by-append, count_by-le-length}
+use Rattle.std.proofs.Common.{cond, ℕ, ◌+◌, ◌<◌, ◌≤◌, List, [], ◌∷◌, ◌++◌, ◌≡◌, refl, ap, sym, ◌∙◌, length}
 use mathlib.Core.HLevel.{⊥_prop}
-use mathlib.Core.List.{List, [], ◌∷◌, ◌++◌, Mem, Disjoint, dec_mem, filter-append, mem-append, mem-append_left, mem-append_right, mem-cons_self, mem-cons_of_mem, not-mem-nil}
+use mathlib.Core.List.{Mem, Disjoint, dec_mem, mem-append, mem-append_left, mem-append_right, mem-cons_self, mem-cons_of_mem, not-mem-nil}
 use mathlib.Core.Logic.Or
 use mathlib.Core.Logic.Dec
 use mathlib.Core.Logic.{ite, if_pos, if_neg}
-use mathlib.Core.Path.{◌≡◌, refl, ap, sym, ◌∙◌}
 use native.Mathlib.Decide.{ℕ_discrete}
-use native.Mathlib.Omega.{arith}
-use lib.ListN.{length, length-append}
 use Rattle.mat.specs.declared.Su3.{Su3}
 use Rattle.geometry.specs.Radix.{volume}
 use Rattle.links.specs.Field.{Field}
-use Rattle.update.specs.declared.Updated.{Updated}
 use Rattle.gauge.specs.Staple.{SameOff}
-use Rattle.update.specs.Update.{is_stuck}
+use Rattle.update.specs.Update.{Updated, is_stuck}
 use Rattle.gauge.proofs.Lists.{Same}
 use Rattle.geometry.specs.Steps.{parity_of}
-use Rattle.visits.specs.Visits.{visited_link, visited_field, stuck_sites, stuck_among}
+use Rattle.visits.specs.Visits.{visited_link, visited_field, stuck_among}
 
 -- ## what a field becomes
 
@@ -36,45 +33,35 @@ module _ (update : Field → ℕ → Updated) (mu : ℕ) where
   visited_none U nu n = visited_out U [] nu n (λ e m. not-mem-nil m)
 
   -- nine entries everywhere stay so
-  pub visited_nine : (U : Field) → ((nu n : ℕ) → length (U nu n).m ≡ 9) → ((n : ℕ) → length (update U n).link.m ≡ 9)
+  pub visited_nine : (U : Field) → ((nu n : ℕ) → length (U nu n).m ≡ 9) → ((n : ℕ) (old : Su3) → length old.m ≡ 9 → length (result_unwrap_or (update U n) old).m ≡ 9)
       → (sites : List ℕ) (nu n : ℕ) → length (visited_field update mu U sites nu n).m ≡ 9
   unfolding visited_field visited_link
-  visited_nine U nine updated sites nu n = go (Dec.and (ℕ_discrete nu mu) (dec_mem ℕ_discrete n sites)) (is_stuck (update U n).stuck) refl
+  visited_nine U nine updated sites nu n = go (Dec.and (ℕ_discrete nu mu) (dec_mem ℕ_discrete n sites))
     where
-      go : (c : Dec ((nu ≡ mu) × Mem n sites)) (b : Bool) → is_stuck (update U n).stuck ≡ b → length (ite c (visited_link (update U n) (U nu n)) (U nu n)).m ≡ 9
-      go (yes h) true e = rw e (nine nu n)
-      go (yes h) false e = rw e (updated n)
-      go (no h) b e = nine nu n
+      go : (c : Dec ((nu ≡ mu) × Mem n sites)) → length (ite c (visited_link (update U n) (U nu n)) (U nu n)).m ≡ 9
+      go (yes h) = updated n (U nu n) (nine nu n)
+      go (no h) = nine nu n
 
 -- ## how many are stuck
 
 module _ (update : Field → ℕ → Updated) where
   pub stuck_append : (U : Field) (a b : List ℕ) → stuck_among update U (a ++ b) ≡ stuck_among update U a + stuck_among update U b
   unfolding stuck_among
-  stuck_append U a b = rw (filter-append (λ n. Bool-discrete (is_stuck (update U n).stuck) true) a b) (length-append (stuck_sites update U a) (stuck_sites update U b))
+  stuck_append U a b = sum_by-append _ a b
 
   -- how many sites were visited bounds how many were stuck
   pub stuck_few : (U : Field) (sites : List ℕ) → stuck_among update U sites ≤ length sites
   unfolding stuck_among
-  stuck_few U [] = omega arith
-  stuck_few U (n ∷ ns) = go (Bool-discrete (is_stuck (update U n).stuck) true) (stuck_few U ns)
-    where
-      go : (c : Dec (is_stuck (update U n).stuck ≡ true)) → length (stuck_sites update U ns) ≤ length ns
-          → length (ite c (n ∷ stuck_sites update U ns) (stuck_sites update U ns)) ≤ length (n ∷ ns)
-      go (yes e) h = omega arith
-      go (no e) h = omega arith
+  stuck_few U sites = count_by-le-length (λ n. is_stuck (update U n)) sites
 
   -- two fields with the same updates at these sites have as many stuck links there
   stuck_same : (U W : Field) (sites : List ℕ) → ((n : ℕ) → Mem n sites → update U n ≡ update W n) → stuck_among update U sites ≡ stuck_among update W sites
   unfolding stuck_among
   stuck_same U W [] h = refl
-  stuck_same U W (n ∷ ns) h = rw (h n mem-cons_self) (go (Bool-discrete (is_stuck (update W n).stuck) true) (stuck_same U W ns (λ m k. h m (mem-cons_of_mem n k))))
-    where
-      go : (c : Dec (is_stuck (update W n).stuck ≡ true)) → length (stuck_sites update U ns) ≡ length (stuck_sites update W ns)
-          → length (ite c (n ∷ stuck_sites update U ns) (stuck_sites update U ns))
-          ≡ length (ite c (n ∷ stuck_sites update W ns) (stuck_sites update W ns))
-      go (yes e) k = rw k
-      go (no e) k = k
+  stuck_same U W (n ∷ ns) h =
+      let here = h n mem-cons_self in
+      let others = stuck_same U W ns (λ m k. h m (mem-cons_of_mem n k)) in
+      simp sum_by-cons (rw here (ap (λ k. cond (is_stuck (update W n)) 1 0 + k) others))
 
 -- ## visits in turn
 

@@ -2,44 +2,58 @@
 // `requires` asks.
 #![tactic(auto)]
 
-ghost use Rattle.gauge.specs.Field.{Link};
-ghost use Rattle.visits.specs.Advance.{Visited, Segment, Advanced};
+ghost use Rattle.std.specs.Prelude.{◌≡◌, ◌+◌, ◌*◌, ◌<◌, ◌≤◌, length};
+ghost use Rattle.geometry.specs.Radix.{volume};
+ghost use Rattle.geometry.specs.Order.{half_of};
+ghost use Rattle.visits.specs.Advance.{Visited, Advanced};
 
-// Updates a link where it stands, unless it is stuck. True if it is.
-fn visit(links: &mut [f64], d: [usize; 4], n: usize, mu: usize) -> bool
-    requires { Link d links.old n mu }
-    ensures { Visited d mu n links.old result links.new }
-{
-    let r = update::new_link(links, d, n, mu);
-    let stuck = r.stuck;
-    if update::is_stuck(stuck) {
-        return true;
-    }
-    let link = r.link;
-    links::store(links, links::place(geometry::sites(d), mu, n), link);
-    false
+use gauge::Su3Lattice;
+use geometry::Extents;
+use update::Stuck;
+
+// The links of a direction at the sites of a parity.
+#[derive(Clone, Copy)]
+pub struct LinkSet {
+    pub extents: Extents,
+    pub direction: usize,
+    pub parity: usize,
+    ghost axis: { direction < 4 },
+    ghost two: { parity < 2 },
 }
 
-// Visits sites of a parity in ascending order, the first of them the from-th, and gives how many
-// links were stuck.
-pub fn advance(
-    links: &mut [f64],
-    d: [usize; 4],
-    mu: usize,
-    p: usize,
-    from: usize,
-    count: usize,
-) -> usize
-    requires { Segment d links.old mu p from count }
-    ensures { Advanced d mu p from count links.old result links.new }
-{
-    let mut stuck = 0;
-    let mut k = 0;
-    while k < count {
-        if visit(links, d, geometry::nth(d, p, from + k), mu) {
-            stuck += 1;
-        }
-        k += 1;
+impl LinkSet {
+    // Updates the set's link at a site where it stands, unless it is stuck.
+    #[tactic(auto, using(crate::proofs::OneSite::site_stuck, crate::proofs::OneSite::site_moved))]
+    fn visit(self, links: &mut [f64], n: usize) -> Result<(), Stuck>
+        requires fits { length links.old ≡ 72 * volume self.extents.d }
+        requires below { n < volume self.extents.d }
+        ensures { Visited self.extents.d self.direction n links.old result links.new }
+    {
+        let extents = self.extents;
+        let link = update::new_link(Su3Lattice { extents, links }, n, self.direction)?;
+        links::store(
+            links,
+            links::place(extents.sites(), self.direction, n),
+            link,
+        );
+        Ok(())
     }
-    stuck
+
+    // Visits sites of the parity in ascending order, the first of them the from-th, and gives how many
+    // links were stuck.
+    #[tactic(auto, using(crate::proofs::Joined::few_stuck, geometry::proofs::Order::nth_below), unfolding(geometry::specs::Order::half_of))]
+    pub fn advance(self, links: &mut [f64], from: usize, count: usize) -> usize
+        requires fits { length links.old ≡ 72 * volume self.extents.d }
+        requires room { from + count ≤ half_of self.extents.d }
+        ensures { Advanced self.extents.d self.direction self.parity from count links.old result links.new }
+    {
+        let mut stuck = 0;
+        for k in from..from + count {
+            let site = geometry::nth(self.extents.d, self.parity, k);
+            if self.visit(links, site).is_err() {
+                stuck += 1;
+            }
+        }
+        stuck
+    }
 }

@@ -5,14 +5,14 @@ use Rattle.folds.specs.Folds.{all_below}
 use Rattle.bounds.specs.Magnitude.{within_two, all_within_two}
 use Rattle.bounds.proofs.all_within_two.Goals as goal
 
-pub loop-k-init : goal.loop-k-init
+pub loop-x-init : goal.loop-x-init
 unfolding all_below
-loop-k-init c = (omega arith, refl)
+loop-x-init c = refl
 
-pub loop-k-preserved : goal.loop-k-preserved
+pub loop-x-preserved : goal.loop-x-preserved
 unfolding all_below within_two
-loop-k-preserved c = (omega arith, rw (add-one, ← c.loop-k.invariant.1))
+loop-x-preserved c = rw (add-one, ← c.loop-x.invariant)
 
 pub returns : goal.returns
 unfolding all_within_two
-returns c = rw c.loop-k.invariant.1 (ap (all_below _) {x = c.loop-k.k} (omega arith))
+returns c = rw c.loop-x.invariant (ap (all_below _) {x = c.loop-x.x-index} (omega arith))

@@ -1,6 +1,10 @@
-use Rattle.lattice.specs.Cold.{cold_answer}
+use Rattle.std.proofs.Common.{ap, ◌∙◌}
+use Rattle.rows.specs.Numbers.{number_in}
+use Rattle.rows.specs.Refusals.{refusal_in}
+use Rattle.rows.proofs.Refusals.{refusal_answered}
 use Rattle.export.proofs.lists.jj_cold.Goals as goal
 
 pub returns : goal.returns
-unfolding cold_answer
-returns c = let e = c.cold.ensures in record { refusal = rw e.answer; array = e.links }
+returns c =
+    let same = ap refusal_in c.cold.ensures.answer ∙ refusal_answered _ _ in
+    record { row = c.row.ensures ∙ ap number_in same; list = c.cold.ensures.links }

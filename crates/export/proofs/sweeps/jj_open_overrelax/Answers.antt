@@ -1,12 +1,8 @@
-use mathlib.Core.Path.{sym}
-use Rattle.rows.proofs.Laws.{if_accepted_lem, if_refused}
-use Rattle.export.proofs.Laws.{open_given}
+use Rattle.std.proofs.Common.{rules, refl}
+use Rattle.export.proofs.Jobs.{open_given}
 use Rattle.export.proofs.sweeps.jj_open_overrelax.Goals as goal
 
-pub returns-then-answer-eq0 : goal.returns-then-answer-eq0
-returns-then-answer-eq0 c =
-    open_given c.open_overrelax-answer.ensures c.job_numbers.ensures (sym (if_accepted_lem _ _ c.if-answer-eq0.true))
-
-pub returns-else-answer-eq0 : goal.returns-else-answer-eq0
-returns-else-answer-eq0 c =
-    open_given c.open_overrelax-answer.ensures c.job_numbers.ensures (sym (if_refused _ _ _ c.if-answer-eq0.false))
+pub returns : goal.returns
+returns c =
+    let called = c.row_and_value-row.ensures in
+    rw (c.job_numbers.ensures, called.row, called.value) (open_given _ _ _ c.args.pass.now c.open_overrelax.ensures (search rules) refl)

@@ -1,19 +1,15 @@
-use mathlib.Core.Path.{sym, ◌∙◌}
-use native.Mathlib.Omega.{arith}
-use Rattle.folds.proofs.Laws.{all_none, all_next, all_fails, all_done}
+use Rattle.std.proofs.Common.{rules, arith, [], length, ap, ◌∙◌}
+use borrow.Author.Tests.{tests}
+use Rattle.std.proofs.lemmas.Iterator.{YieldsList-from_slice}
+use Rattle.std.proofs.lemmas.Iterator.Search.{all_from_yields_List}
+use Rattle.folds.specs.Folds.{all_below}
+use Rattle.mat.specs.Matrix.{finite_matrix}
 use Rattle.fields.specs.Situations.{finite_six}
+use Rattle.fields.proofs.Placed.{all_listed}
 use Rattle.fields.proofs.matrices.finite_six.Goals as goal
-
-pub loop-p-init : goal.loop-p-init
-loop-p-init c = (omega arith, all_none _)
-
-pub returns-then-not-is_finite : goal.returns-then-not-is_finite
-unfolding finite_six
-returns-then-not-is_finite c = sym (all_fails _ 6 c.loop-p.p (omega arith) (sym c.is_finite.ensures ∙ c.if-not-is_finite.true))
-
-pub loop-p-preserved : goal.loop-p-preserved
-loop-p-preserved c = (omega arith, all_next _ _ c.loop-p.invariant.1 (sym c.is_finite.ensures ∙ c.if-not-is_finite.false))
 
 pub returns : goal.returns
 unfolding finite_six
-returns c = all_done _ {m = c.loop-p.p} (omega arith) c.loop-p.invariant.1
+returns c =
+    all_from_yields_List finite_matrix _ _ _ c.all.ensures.ran (YieldsList-from_slice c.args.f cc) (λ x b q k. search (rules, tests))
+    ∙ all_listed finite_matrix (record { m = [] }) c.args.f ∙ ap (all_below _) {x = length c.args.f} (omega arith)

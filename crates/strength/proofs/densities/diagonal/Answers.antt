@@ -1,16 +1,8 @@
-use mathlib.Core.Path.{ap}
-use native.Mathlib.Omega.{arith}
-use Rattle.complex.specs.declared.C64.{C64}
-use Rattle.mat.specs.Product.{row_col}
-use Rattle.folds.proofs.Laws.{fold_none, fold_next, fold_done}
+use Rattle.folds.proofs.Laws.{fold_none, fold_next}
 use Rattle.strength.proofs.densities.diagonal.Goals as goal
 
 pub loop-k-init : goal.loop-k-init
-loop-k-init c = (omega arith, fold_none _ _ _)
+loop-k-init c = fold_none _ _ _
 
 pub loop-k-preserved : goal.loop-k-preserved
-loop-k-preserved c = (omega arith, fold_next _ _ _ _ c.loop-k.invariant.1 c.mul.ensures c.add-s.ensures)
-
-pub returns : goal.returns
-unfolding row_col
-returns c = ap (λ (z : C64). z.re) (fold_done _ _ _ {m = c.loop-k.k} (omega arith) c.loop-k.invariant.1)
+loop-k-preserved c = fold_next _ _ _ _ c.loop-k.invariant c.mul.ensures c.add-s.ensures

@@ -1,4 +1,4 @@
-use Prim.Native.Nat.{◌≤◌, ◌-◌, ◌*◌, ◌+◌}
+use Prim.Native.Nat.{◌*◌, ◌+◌}
 use mathlib.Core.Path.{◌≡◌}
 use lib.ListN.{get_or}
 use Rattle.complex.specs.Complex.{cadd, cmul, czero, cnan}
@@ -6,7 +6,4 @@ use Rattle.folds.specs.Folds.{fold_to}
 use Rattle.strength.proofs.densities.diagonal.Given as goal
 
 abbrev pub invariant-loop-k : goal.invariant-loop-k
-invariant-loop-k l = (l.k ≤ 3) × (l.s ≡ fold_to cadd czero (λ k. cmul (get_or l.x (3 * l.i + k) cnan) (get_or l.y (3 * k + l.i) cnan)) l.k)
-
-abbrev pub decreases-loop-k : goal.decreases-loop-k
-decreases-loop-k l = 3 - l.k
+invariant-loop-k l = l.s ≡ fold_to cadd czero (λ k. cmul (get_or l.x (3 * l.i + k) cnan) (get_or l.y (3 * k + l.i) cnan)) l.k

@@ -1,5 +1,0 @@
-use Rattle.export.proofs.Laws.{count_given}
-use Rattle.export.proofs.sites.jj_parity.Goals as goal
-
-pub returns : goal.returns
-returns c = count_given c.parity-answer.ensures c.count_refusal.ensures c.count_value.ensures
