@@ -16,9 +16,11 @@ fn quark_line(junction: Walker<'_>, top: Walker<'_>, steps: &Stairs, t_len: usiz
     requires later { top.at.site ≡ later_of junction.lattice.extents.d junction.at.site t_len }
     ensures { result ≡ quark_line_of junction.entry.lattice.extents.d (field_under junction.entry) t_len junction.entry.at.site steps.now }
 {
-    let (lower, quark) = junction.path(steps);
-    let (line, _) = quark.time_line(t_len);
-    let (upper, _) = top.path(steps);
+    let mut below = junction;
+    let lower = below.path(steps);
+    let line = below.time_line(t_len);
+    let mut above = top;
+    let upper = above.path(steps);
     lower.mul(line).mul_dag(upper)
 }
 
@@ -26,7 +28,8 @@ fn quark_line(junction: Walker<'_>, top: Walker<'_>, steps: &Stairs, t_len: usiz
 pub fn baryon_loop(junction: Walker<'_>, paths: &[Stairs; 3], t_len: usize) -> f64
     ensures { result ≡ loop_of junction.entry.lattice.extents.d (field_under junction.entry) t_len junction.entry.at.site paths.now }
 {
-    let top = junction.later(t_len);
+    let mut top = junction;
+    top.later(t_len);
     let [a, b, c] = paths;
     let x = quark_line(junction, top, a, t_len);
     let y = quark_line(junction, top, b, t_len);

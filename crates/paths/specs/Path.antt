@@ -40,9 +40,6 @@ field_under w = link_of w.lattice.extents.d w.lattice.links.now
 abbrev pub transporter : Su3 → Walker → Transporter
 transporter u w = record { u = u; site = w.at.site }
 
-abbrev pub stepped : Su3 → Walker → Step → Transporter
-stepped u w step = step_of w.lattice.extents.d (field_under w) (transporter u w) step
-
 abbrev pub path_from : Walker → List Step → Transporter
 path_from w steps = path_of w.lattice.extents.d (field_under w) w.at.site steps
 

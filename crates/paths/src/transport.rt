@@ -4,12 +4,12 @@ ghost use Rattle.std.specs.Prelude.{◌≡◌, ◌<◌};
 ghost use Rattle.geometry.specs.Radix.{volume};
 ghost use Rattle.geometry.specs.Steps.{fwd_of, bwd_of};
 ghost use Rattle.gauge.specs.Polyakov.{later_of};
-ghost use Rattle.paths.specs.Path.{field_under, line_from, path_from, stepped, transporter};
+ghost use Rattle.paths.specs.Path.{field_under, line_from, path_from, transporter};
 
 use crate::Walker;
 use gauge::Su3Lattice;
 use mat::Su3;
-use stairs::{Stairs, Step};
+use stairs::Stairs;
 
 impl<'a> Walker<'a> {
     // At a site.
@@ -50,56 +50,45 @@ impl<'a> Walker<'a> {
         self.at = steps::down(self.lattice.extents.d, self.strides, self.at, mu);
     }
 
-    // One step on: the product along it.
-    pub fn step(&mut self, u: Su3, step: Step) -> Su3
-        requires { step.axis < 4 }
+    // The product along steps from here, and on to their end.
+    pub fn path(&mut self, steps: &Stairs) -> Su3
         ensures field { self.new.lattice ≡ self.old.lattice }
-        ensures stepped { transporter result self.new ≡ stepped u self.old step }
-    {
-        let mu = usize::from(step.axis);
-        if step.forward {
-            let product = u.mul(self.link(mu));
-            self.up(mu);
-            product
-        } else {
-            self.down(mu);
-            u.mul_dag(self.link(mu))
-        }
-    }
-
-    // The product along steps from here, and their end.
-    pub fn path(mut self, steps: &Stairs) -> (Su3, Self)
-        ensures field { result.1.lattice ≡ self.entry.lattice }
-        ensures walked { transporter result.0 result.1 ≡ path_from self.entry steps.now }
+        ensures walked { transporter result self.new ≡ path_from self.old steps.now }
     {
         let mut u = Su3::IDENTITY;
         for step in steps.as_slice() {
-            u = self.step(u, *step);
+            let mu = usize::from(step.axis);
+            if step.forward {
+                u = u.mul(self.link(mu));
+                self.up(mu);
+            } else {
+                self.down(mu);
+                u = u.mul_dag(self.link(mu));
+            }
         }
-        (u, self)
+        u
     }
 
-    // The product of t_len links along time from here, and their end.
-    pub fn time_line(mut self, t_len: usize) -> (Su3, Self)
-        ensures field { result.1.lattice ≡ self.entry.lattice }
-        ensures walked { transporter result.0 result.1 ≡ line_from self.entry t_len }
+    // The product of t_len links along time from here, and on to their end.
+    pub fn time_line(&mut self, t_len: usize) -> Su3
+        ensures field { self.new.lattice ≡ self.old.lattice }
+        ensures walked { transporter result self.new ≡ line_from self.old t_len }
     {
         let mut u = Su3::IDENTITY;
         for _ in 0..t_len {
             u = u.mul(self.link(0));
             self.up(0);
         }
-        (u, self)
+        u
     }
 
-    // t_len steps along time.
-    pub fn later(mut self, t_len: usize) -> Self
-        ensures field { result.lattice ≡ self.entry.lattice }
-        ensures end { result.at.site ≡ later_of self.entry.lattice.extents.d self.entry.at.site t_len }
+    // On along time by t_len steps.
+    pub fn later(&mut self, t_len: usize)
+        ensures field { self.new.lattice ≡ self.old.lattice }
+        ensures end { self.new.at.site ≡ later_of self.old.lattice.extents.d self.old.at.site t_len }
     {
         for _ in 0..t_len {
             self.up(0);
         }
-        self
     }
 }

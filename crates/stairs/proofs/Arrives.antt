@@ -11,7 +11,7 @@ use Rattle.stairs.specs.Line.{along_of}
 use Rattle.stairs.specs.Staircase.{differs, stepped_to, best_of, step_along, place_at, step_at, steps_to, staircase_of}
 use Rattle.stairs.specs.Claims.{led_by, StaircaseArrives}
 use Rattle.stairs.proofs.Best.{best_low, best_left}
-use Rattle.stairs.proofs.Places.{long_place}
+use Rattle.stairs.proofs.Places.{long_place, length-staircase}
 
 -- ## along one axis
 
@@ -132,6 +132,10 @@ module _ (d : List ℤ) where
       let n = next i h (best_of (place_at d i) d) (best_low (place_at d i) d) (some_left d (place_at d i) h.between (rw h.steps (omega arith))) in
       record { between = n.0; steps = n.1 ∙ add-one i }
 
+  -- where steps are left, the place is not the offset
+  pub not_there : (i : ℕ) {p : List ℤ} → i < steps_to d → p ≡ place_at d i → p ≡ d → ⊥
+  not_there i l e same = let h = on_the_way i (omega arith) in omega (arith, ap steps_to (sym same ∙ e) ∙ h.steps)
+
   left_along : (i : ℕ) → i < steps_to d → differs (along_of (place_at d i) (best_of (place_at d i) d)) (along_of d (best_of (place_at d i) d)) ≡ true
   left_along i l = let h = on_the_way i (omega arith) in some_left d (place_at d i) h.between (rw h.steps l)
 
@@ -188,9 +192,5 @@ module _ (d : List ℤ) where
   unfolding step_at step_along
   space_axis i = let l = best_low (place_at d i) d in (omega arith, omega arith)
 
-  as_many : length (staircase_of d) ≡ steps_to d
-  unfolding staircase_of
-  as_many = length-listed (step_at d) (steps_to d)
-
 pub staircase_arrives : StaircaseArrives
-staircase_arrives = record { count = as_many; axes = space_axis; left = left_along; arrives = all_lead }
+staircase_arrives = record { count = length-staircase; axes = space_axis; left = left_along; arrives = all_lead }

@@ -1,16 +1,16 @@
 -- The places of a staircase, step by step.
-use Rattle.std.proofs.Common.{ℕ, zero, suc, ◌+◌, ◌<◌, ◌≤◌, List, [], ◌∷◌, ◌++◌, map, length, ◌≡◌, refl, ap, sym, ◌∙◌, All, false, ℤ, pos, nat_abs, ◌+ℤ◌, arith, add-one}
+use Rattle.std.proofs.Common.{ℕ, zero, suc, ◌+◌, ◌<◌, ◌≤◌, List, [], ◌∷◌, ◌++◌, map, length, ◌≡◌, refl, ap, sym, ◌∙◌, false, ℤ, pos, nat_abs, ◌+ℤ◌, arith, add-one}
 use native.Mathlib.Decide.{ℕ_discrete}
 use Rattle.std.proofs.Math.ListN.{set, length-set}
 use Rattle.std.proofs.Math.Seq.{get_or-set_same, get_or-set_other}
 use Rattle.std.specs.Int.{int_signum}
 use Rattle.geometry.specs.Range.{range}
-use Rattle.geometry.proofs.Range.{listed_next, length-listed, listed_at}
+use Rattle.geometry.proofs.Range.{listed_next, length-listed}
 use Rattle.folds.proofs.Few.{below_three}
 use Rattle.stairs.specs.declared.Step.{Step}
 use Rattle.stairs.specs.Line.{along_of}
 use Rattle.stairs.specs.Offsets.{bad_offsets}
-use Rattle.stairs.specs.Staircase.{stepped_to, best_of, step_along, place_at, step_at, steps_to, Reached}
+use Rattle.stairs.specs.Staircase.{stepped_to, best_of, step_along, place_at, step_at, steps_to, staircase_of, Reached}
 use Rattle.stairs.proofs.Whole.{moved_near, reach_low, each_offset}
 use Rattle.stairs.proofs.Best.{best_low}
 
@@ -44,14 +44,6 @@ laid_next d i l e f g h = rw (h, l, g, f, e, add-one i) (sym (listed_next (step_
 pub laid_few : (d : List ℤ) (i : ℕ) {steps : List Step} → bad_offsets d ≡ false → i < steps_to d → steps ≡ map (step_at d) (range i) → length steps < 96
 laid_few d i h l e = let low = steps_low d h in rw (e, length-listed (step_at d) i) (omega arith)
 
--- each goes along an axis of space
-pub axes_low : (d : List ℤ) (n : ℕ) {steps : List Step} → steps ≡ map (step_at d) (range n) → All (λ s. s.axis < 4) steps
-unfolding step_at step_along
-axes_low d n e k z h =
-    let len = ap length e ∙ length-listed (step_at d) n in
-    let low = best_low (place_at d k) d in
-    rw (e, listed_at (step_at d) z n k (rw (sym len) h)) (omega arith)
-
 pub long_place : (d : List ℤ) (i : ℕ) → length (place_at d i) ≡ 3
 unfolding place_at stepped_to
 long_place d zero = refl
@@ -73,3 +65,8 @@ place_near d (suc i) a l = go (best_of (place_at d i) d) (best_low (place_at d i
 
 pub near : (d : List ℤ) (i : ℕ) {p : List ℤ} → p ≡ place_at d i → i ≤ 96 → Reached p
 near d i e l = record { each = λ a m. rw e (let h = place_near d i a m in omega arith) }
+
+-- so many steps in all
+pub length-staircase : (d : List ℤ) → length (staircase_of d) ≡ steps_to d
+unfolding staircase_of
+length-staircase d = length-listed (step_at d) (steps_to d)

@@ -1,13 +1,12 @@
-#![tactic(auto, unfolding(crate::specs::Staircase::staircase_of))]
+#![tactic(auto, unfolding(crate::specs::Staircase::staircase_of), using(crate::proofs::Whole::each_quark))]
 
-ghost use Rattle.std.specs.Prelude.{◌≡◌, false};
-ghost use Rattle.stairs.specs.Offsets.{bad_offsets};
+ghost use Rattle.std.specs.Prelude.{◌≡◌, false, map};
+ghost use Rattle.stairs.specs.Offsets.{bad_offsets, bad_quarks};
 ghost use Rattle.stairs.specs.Staircase.{staircase_of};
 
 use crate::line::Line;
 use crate::offsets::steps_to;
 use crate::{Stairs, Step};
-use arrayvec::ArrayVec;
 
 // The staircase to an offset.
 pub fn staircase(d: [i32; 3]) -> Stairs
@@ -15,7 +14,7 @@ pub fn staircase(d: [i32; 3]) -> Stairs
     ensures { result ≡ staircase_of d }
 {
     let line = Line::to(d);
-    let mut steps = ArrayVec::new();
+    let mut steps = Stairs::new();
     let mut p = [0; 3];
     for _ in 0..steps_to(d) {
         let a = line.best_axis(p);
@@ -25,5 +24,14 @@ pub fn staircase(d: [i32; 3]) -> Stairs
             forward: d[a] > 0,
         });
     }
-    Stairs { steps }
+    steps
+}
+
+// Those of three quarks.
+pub fn staircases(quarks: [[i32; 3]; 3]) -> [Stairs; 3]
+    requires { bad_quarks quarks ≡ false }
+    ensures { result ≡ map staircase_of quarks }
+{
+    let [a, b, c] = quarks;
+    [staircase(a), staircase(b), staircase(c)]
 }

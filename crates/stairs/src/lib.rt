@@ -1,15 +1,16 @@
 // The staircase of unit steps to an offset in space. An offset is one whole number for each of x, y, z.
 #![tactic(auto)]
 
+pub mod checks;
 mod climb;
 mod codes;
 mod line;
 mod offsets;
 
-ghost use Rattle.std.specs.Prelude.{◌<◌, ◌≡◌, All};
+ghost use Rattle.std.specs.Prelude.{◌<◌, ◌≤◌, ◌≡◌, [], ◌∷◌, ◌++◌, length, All};
 
 use arrayvec::ArrayVec;
-pub use climb::staircase;
+pub use climb::{staircase, staircases};
 pub use offsets::{bad_offsets, bad_quarks, steps_to};
 use std::marker::Model;
 
@@ -38,9 +39,26 @@ impl Model for Stairs {
 }
 
 impl Stairs {
+    pub fn new() -> Self
+        ensures { result ≡ [] }
+    {
+        Stairs {
+            steps: ArrayVec::new(),
+        }
+    }
+
+    pub fn push(&mut self, step: Step)
+        requires axis { step.axis < 4 }
+        requires room { length self.old < 96 }
+        ensures { self.new ≡ self.old ++ step ∷ [] }
+    {
+        self.steps.push(step);
+    }
+
     pub fn as_slice(&self) -> &[Step]
         ensures steps { result.now ≡ self.now }
-        ensures axes { All (λ s. s.axis < 4) self.now }
+        ensures axes { All (λ s. s.axis < 4) result.now }
+        ensures few { length result.now ≤ 96 }
     {
         self.steps.as_slice()
     }

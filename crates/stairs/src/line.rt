@@ -1,6 +1,6 @@
 #![tactic(auto, unfolding(folds::specs::Folds::fold_to, crate::specs::Line::dot, crate::specs::Line::line_dist, crate::proofs::Best::best_below))]
 
-ghost use Rattle.std.specs.Prelude.{◌≡◌, ◌<◌};
+ghost use Rattle.std.specs.Prelude.{◌≡◌, ◌≢◌, ◌<◌};
 ghost use Rattle.stairs.specs.Line.{dot, line_dist};
 ghost use Rattle.stairs.specs.Staircase.{best_of, Reached};
 
@@ -48,7 +48,8 @@ impl Line {
 
     // The axis of the step that keeps nearest to the line: of equally near ones the first.
     pub fn best_axis(self, p: [i32; 3]) -> usize
-        requires { Reached p }
+        requires reached { Reached p }
+        requires left { p ≢ self.d }
         ensures axis { result ≡ best_of p self.d }
         ensures in_space { result < 3 }
     {
@@ -63,6 +64,6 @@ impl Line {
                 }
             }
         }
-        best.map_or(0, |(a, _)| a)
+        best.unwrap().0
     }
 }

@@ -4,6 +4,6 @@ use Rattle.paths.proofs.Walker.later.Given as goal
 
 abbrev pub invariant-loop : goal.invariant-loop
 invariant-loop l = record {
-  field : l.self.lattice ≡ l.fn.self.lattice;
-  end : l.self.at.site ≡ later_of l.fn.self.lattice.extents.d l.fn.self.at.site l.counter;
+  field : l.self.lattice ≡ l.initial.self.lattice;
+  end : l.self.at.site ≡ later_of l.initial.self.lattice.extents.d l.initial.self.at.site l.counter;
 }

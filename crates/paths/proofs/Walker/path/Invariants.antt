@@ -4,6 +4,6 @@ use Rattle.paths.proofs.Walker.path.Given as goal
 
 abbrev pub invariant-loop-step : goal.invariant-loop-step
 invariant-loop-step l = record {
-  field : l.self.lattice ≡ l.fn.self.lattice;
-  walked : transporter l.u l.self ≡ path_from l.fn.self (take l.step-index l.step-items);
+  field : l.self.lattice ≡ l.initial.self.lattice;
+  walked : transporter l.u l.self ≡ path_from l.initial.self (take l.step-index l.step-items);
 }

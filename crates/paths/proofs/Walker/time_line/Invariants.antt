@@ -4,6 +4,6 @@ use Rattle.paths.proofs.Walker.time_line.Given as goal
 
 abbrev pub invariant-loop : goal.invariant-loop
 invariant-loop l = record {
-  field : l.self.lattice ≡ l.fn.self.lattice;
-  walked : transporter l.u l.self ≡ line_from l.fn.self l.counter;
+  field : l.self.lattice ≡ l.initial.self.lattice;
+  walked : transporter l.u l.self ≡ line_from l.initial.self l.counter;
 }

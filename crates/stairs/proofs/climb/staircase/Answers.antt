@@ -2,15 +2,19 @@ use Rattle.std.proofs.Common.{rules, ◌+◌, arith}
 use Rattle.geometry.specs.Range.{range}
 use Rattle.stairs.specs.Staircase.{step_along}
 use Rattle.stairs.proofs.Whole.{moved}
-use Rattle.stairs.proofs.Places.{place_none, place_next, near, steps_low, laid_next, laid_few, axes_low}
+use Rattle.stairs.proofs.Places.{place_none, place_next, near, steps_low, laid_next, laid_few}
+use Rattle.stairs.proofs.Arrives.{not_there}
 use Rattle.stairs.proofs.climb.staircase.Goals as goal
 
 pub loop-init : goal.loop-init
 unfolding range
 loop-init c = record { laid = c.new-steps.ensures; here = place_none _; reached = near c.args.d 0 (place_none _) (omega arith) }
 
-pub push-requires : goal.push-requires
-push-requires c = let few = laid_few _ _ c.requires (rw (← c.steps_to-end.ensures) c.loop-test.true) c.loop.invariant.laid in (omega arith, few)
+pub best_axis-a-requires-clause-left : goal.best_axis-a-requires-clause-left
+best_axis-a-requires-clause-left c = λ same. not_there c.args.d c.loop.counter (rw (← c.steps_to-end.ensures) c.loop-test.true) c.loop.invariant.here (rw (← c.to-line.ensures) same)
+
+pub push-requires-clause-room : goal.push-requires-clause-room
+push-requires-clause-room c = laid_few _ _ c.requires (rw (← c.steps_to-end.ensures) c.loop-test.true) c.loop.invariant.laid
 
 pub loop-preserved : goal.loop-preserved
 unfolding step_along
@@ -22,10 +26,7 @@ loop-preserved c =
     let best = rw c.to-line.ensures at c.best_axis-a.ensures.axis in
     let here = place_next d i now.here best (moved c.loop.p d a now.reached c.best_axis-a.ensures.in_space (search rules) c.signum.ensures.value) in
     record {
-      laid = laid_next d i now.laid now.here best (search rules) c.push.ensures.items;
+      laid = laid_next d i now.laid now.here best (search rules) c.push.ensures;
       here = here;
       reached = near d (i + 1) here (omega (arith, steps_low d c.requires));
     }
-
-pub invariant_of-result : goal.invariant_of-result
-invariant_of-result c = axes_low _ _ c.loop.invariant.laid

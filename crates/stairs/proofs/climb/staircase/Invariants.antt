@@ -5,7 +5,7 @@ use Rattle.stairs.proofs.climb.staircase.Given as goal
 
 abbrev pub invariant-loop : goal.invariant-loop
 invariant-loop l = record {
-  laid : l.steps.items ≡ map (step_at l.d) (range l.counter);
+  laid : l.steps ≡ map (step_at l.d) (range l.counter);
   here : l.p ≡ place_at l.d l.counter;
   reached : Reached l.p;
 }

@@ -12,15 +12,16 @@ loop-a-preserved c =
     let a = c.loop-a.a in
     elim c.if-p-a.branch [
       | then-p-a+then-is_none_or w ↦
-          let e = w.line_dist-dist.ensures ∙ ap (λ z. line_dist z d) (moved p d a c.requires (omega arith) (search rules) w.signum.ensures.value) in
+          let e = w.line_dist-dist.ensures ∙ ap (λ z. line_dist z d) (moved p d a c.requires.reached (omega arith) (search rules) w.signum.ensures.value) in
           left_better p d a w.is_none_or.result c.loop-a.invariant (differs_lem _ _ (search rules) (search rules) w.if-p-a.true) e (search rules) w.if-is_none_or.true w.best-is
       | then-p-a+else-is_none_or w ↦
-          let e = w.line_dist-dist.ensures ∙ ap (λ z. line_dist z d) (moved p d a c.requires (omega arith) (search rules) w.signum.ensures.value) in
+          let e = w.line_dist-dist.ensures ∙ ap (λ z. line_dist z d) (moved p d a c.requires.reached (omega arith) (search rules) w.signum.ensures.value) in
           left_kept p d a w.is_none_or.result c.loop-a.invariant (differs_lem _ _ (search rules) (search rules) w.if-p-a.true) e (search rules) w.if-is_none_or.false w.best-is
       | else-p-a w ↦ none_more p d a c.loop-a.invariant (same_lem _ _ (search rules) (search rules) w.if-p-a.false) w.best-is
     ]
 
+pub unwrap-requires : goal.unwrap-requires
+unwrap-requires c = ?
+
 pub returns : goal.returns
-returns c =
-    let found = best_found c.args.p c.args.self.d {best = c.loop-a.best} {a = c.loop-a.a} (omega arith) c.loop-a.invariant (search rules) in
-    record { axis = found; in_space = rw found (best_low c.args.p c.args.self.d) }
+returns c = ?
