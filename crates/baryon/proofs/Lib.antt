@@ -1,5 +1,1 @@
-pub mod Laws
-pub mod Paths
-pub mod Places
-pub mod Bytes
-pub mod StaircaseTurn
+pub mod Along

@@ -1,27 +1,28 @@
-ghost use Rattle.baryon.specs.Calls.{BaryonCall};
+#![tactic(auto, unfolding(rows::specs::Refusals::first_refusal, rows::specs::Refusals::refusal_in, rows::specs::Refusals::answered, rows::specs::Refusals::finally, contraction::specs::Baryon::baryon_of, crate::specs::Calls::baryon_call))]
 
-use crate::checks::loop_row;
-use rows::Number;
+ghost use Rattle.std.specs.Prelude.{◌≡◌};
+ghost use Rattle.baryon.specs.Calls.{baryon_call};
+
+use field_checks::checks;
+use paths::Walker;
+use rows::Refusal;
 
 // The loop of three quarks at offsets x, y, z each from the junction at a site, with t_len links along
 // time.
 pub fn baryon_loop(
     extents: [usize; 4],
     site: usize,
-    offsets: [i32; 9],
+    offsets: [[i32; 3]; 3],
     t_len: usize,
     links: &[f64],
-) -> Number
-    ensures { BaryonCall extents site offsets t_len links.now result }
+) -> Result<f64, Refusal>
+    ensures { result ≡ baryon_call extents site offsets t_len links.now }
 {
-    let row = loop_row(extents, links.len(), site, offsets, t_len);
-    if row != 0 {
-        return Number::Refused(row);
-    }
-    let a = stairs::staircase(stairs::offset(offsets, 0));
-    let b = stairs::staircase(stairs::offset(offsets, 1));
-    let c = stairs::staircase(stairs::offset(offsets, 2));
-    let s = steps::strides(extents);
-    let from = steps::spot(extents, site);
-    field_checks::checked_number(contraction::baryon_loop(links, extents, s, from, a, b, c, t_len))
+    let extents = checks::extents(extents)?;
+    let lattice = checks::lattice(extents, links)?;
+    checks::site(extents, site)?;
+    stairs::checks::quarks(offsets)?;
+    stairs::checks::time(t_len)?;
+    let paths = stairs::staircases(offsets);
+    checks::finite(contraction::baryon_loop(Walker::new(lattice, site), &paths, t_len))
 }

@@ -1,140 +1,67 @@
-ghost use Rattle.std.specs.Prelude.{◌≡◌, [], ◌∷◌, map};
-ghost use Rattle.rows.specs.Rows.{first_row};
-ghost use Rattle.field_checks.specs.Situations.{bad_matrix};
-ghost use Rattle.baryon.specs.Walk.{Walkable, opened_of, stepped_of, closed_of};
-ghost use Rattle.baryon.specs.Codes.{step_of_code};
-ghost use Rattle.baryon.specs.Calls.{refused_path, path_answer, path_call, line_call};
+#![tactic(auto, unfolding(rows::specs::Refusals::first_refusal, rows::specs::Refusals::refusal_in, rows::specs::Refusals::answered, rows::specs::Refusals::finally, crate::specs::Calls::path_call, crate::specs::Calls::line_call, crate::specs::Situations::many_steps, crate::specs::Situations::bad_axes))]
 
-use crate::PathAnswer;
-use crate::checks::{line_row, path_row};
+ghost use Rattle.std.specs.Prelude.{◌≡◌, map};
+ghost use Rattle.rows.specs.Refusals.{Checked};
+ghost use Rattle.stairs.specs.declared.Step.{Step};
+ghost use Rattle.baryon.specs.Situations.{steps_rows};
+ghost use Rattle.baryon.specs.Calls.{Stands, path_call, line_call};
+
+use field_checks::checks;
 use mat::Su3;
-use stairs::Step;
+use paths::Walker;
+use rows::Refusal;
+use stairs::{Stairs, Step};
 
-pub fn refused_path(row: u32) -> PathAnswer
-    ensures { result ≡ refused_path row }
+// The steps that a host hands in.
+fn steps_of<S: Copy + Into<Step>>(given: &[S]) -> Result<Stairs, Refusal>
+    ensures { (read : S → Step) → Stands S.converts read → Checked (steps_rows (map read given.now)) (λ s. s ≡ map read given.now) result }
 {
-    PathAnswer {
-        refusal: row,
-        matrix: Su3::ZERO,
-        site: 0,
+    if given.len() > 96 {
+        return Err(Refusal::Reach);
     }
+    let mut steps = Stairs::new();
+    for x in given {
+        let step: Step = (*x).into();
+        if step.axis > 3 {
+            return Err(Refusal::Reach);
+        }
+        steps.push(step);
+    }
+    Ok(steps)
 }
 
-// A product and its end as an answer: row 10 where one of the product's numbers isn't finite.
-fn checked_path(u: Su3, site: usize) -> PathAnswer
-    ensures { result ≡ path_answer (first_row ((bad_matrix u, 10) ∷ [])) (record { u = u; site = site }) }
+// The product of the links along the steps from a site, and where it ends. A byte may stand for a step.
+pub fn path<S: Copy + Into<Step>>(
+    extents: [usize; 4],
+    site: usize,
+    links: &[f64],
+    steps: &[S],
+) -> Result<(Su3, usize), Refusal>
+    ensures { (read : S → Step) → Stands S.converts read → result ≡ path_call extents site links.now (map read steps.now) }
 {
-    if !u.is_finite() {
-        return refused_path(10);
-    }
-    PathAnswer {
-        refusal: 0,
-        matrix: u,
-        site,
-    }
-}
-
-// Before the first step.
-fn path_open(extents: [usize; 4], site: usize, len: usize, count: usize) -> PathAnswer
-    ensures { result ≡ opened_of extents site len count }
-{
-    let row = path_row(extents, len, site, count);
-    if row != 0 {
-        return refused_path(row);
-    }
-    PathAnswer {
-        refusal: 0,
-        matrix: Su3::IDENTITY,
-        site,
-    }
-}
-
-// One step on; a path that is refused stays as it is.
-fn path_step(extents: [usize; 4], links: &[f64], w: PathAnswer, s: Step) -> PathAnswer
-    requires { Walkable extents links.now w }
-    ensures { result ≡ stepped_of extents links.now w s }
-{
-    if w.refusal != 0 {
-        return w;
-    }
-    if s.axis > 3 {
-        return refused_path(11);
-    }
-    let v = geometry::sites(extents);
-    let mu = s.axis as usize;
-    let u = w.matrix;
-    if s.forward {
-        let matrix = u.mul(links::link(links, v, mu, w.site));
-        let site = steps::fwd(extents, w.site, mu);
-        return PathAnswer {
-            refusal: 0,
-            matrix,
-            site,
-        };
-    }
-    let site = steps::bwd(extents, w.site, mu);
-    let matrix = u.mul_dag(links::link(links, v, mu, site));
-    PathAnswer {
-        refusal: 0,
-        matrix,
-        site,
-    }
-}
-
-fn path_close(w: PathAnswer) -> PathAnswer
-    ensures { result ≡ closed_of w }
-{
-    if w.refusal != 0 {
-        return w;
-    }
-    let u = w.matrix;
-    checked_path(u, w.site)
-}
-
-// The product of the links along the steps from a site, and where it ends.
-pub fn path(extents: [usize; 4], site: usize, links: &[f64], steps: &[Step]) -> PathAnswer
-    ensures { result ≡ path_call extents site links.now steps.now }
-{
-    let mut w = path_open(extents, site, links.len(), steps.len());
-    let mut i: usize = 0;
-    while i < steps.len() {
-        w = path_step(extents, links, w, steps[i]);
-        i += 1;
-    }
-    path_close(w)
-}
-
-fn step_of(code: u8) -> Step
-    ensures { result ≡ step_of_code code }
-{
-    Step {
-        axis: code / 2,
-        forward: code % 2 == 1,
-    }
-}
-
-// The same as `path`, with a byte for each step: for a host that has no structs.
-pub fn path_codes(extents: [usize; 4], site: usize, links: &[f64], codes: &[u8]) -> PathAnswer
-    ensures { result ≡ path_call extents site links.now (map step_of_code codes.now) }
-{
-    let mut w = path_open(extents, site, links.len(), codes.len());
-    for i in 0..codes.len() {
-        w = path_step(extents, links, w, step_of(codes[i]));
-    }
-    path_close(w)
+    let extents = checks::extents(extents)?;
+    let lattice = checks::lattice(extents, links)?;
+    checks::site(extents, site)?;
+    let steps = steps_of(steps)?;
+    let mut walker = Walker::new(lattice, site);
+    let u = walker.path(&steps);
+    Ok((checks::finite_matrix(u)?, walker.at.site))
 }
 
 // The product of t_len links along time from a site, and where it ends.
-pub fn time_line(extents: [usize; 4], site: usize, t_len: usize, links: &[f64]) -> PathAnswer
+pub fn time_line(
+    extents: [usize; 4],
+    site: usize,
+    t_len: usize,
+    links: &[f64],
+) -> Result<(Su3, usize), Refusal>
     ensures { result ≡ line_call extents site t_len links.now }
 {
-    let row = line_row(extents, links.len(), site, t_len);
-    if row != 0 {
-        return refused_path(row);
-    }
-    let s = steps::strides(extents);
-    let from = steps::spot(extents, site);
-    let w = paths::time_line(links, extents, s, from, t_len);
-    let end = w.end;
-    checked_path(w.u, end.site)
+    let extents = checks::extents(extents)?;
+    let lattice = checks::lattice(extents, links)?;
+    checks::site(extents, site)?;
+    stairs::checks::time(t_len)?;
+    let mut walker = Walker::new(lattice, site);
+    let u = walker.time_line(t_len);
+    Ok((checks::finite_matrix(u)?, walker.at.site))
 }

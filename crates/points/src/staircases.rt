@@ -1,39 +1,23 @@
 use crate::Tally;
 use baryon::Step;
-use rows::Count;
 
 // The steps as the digits of a number: twice the axis, and 1 more where it goes forward.
-fn digits(steps: [Step; 96], count: usize) -> u64 {
-    let mut x: u64 = 0;
-    for i in 0..96usize {
-        if i < count {
-            let s = steps[i];
-            let up = if s.forward { 1u64 } else { 0u64 };
-            let axis = words::wrapping_mul(2, s.axis as u64);
-            let digit = std::num::wrapping_add_u64(axis, up);
-            x = std::num::wrapping_add_u64(words::wrapping_mul(10, x), digit);
-        }
-    }
-    x
+fn digits(steps: &[Step]) -> u64 {
+    steps.iter().fold(0u64, |x, step| {
+        x.wrapping_mul(10).wrapping_add(u64::from(u8::from(*step)))
+    })
 }
 
 fn staircase(tally: Tally, d: [i32; 3], label: &[u8], wanted: u64) -> Tally {
-    let got = baryon::staircase_by_ref(d);
-    let answer = got.answer;
-    let steps = got.steps;
-    match answer {
-        Count::Value(n) => tally.whole(label, digits(steps, n), wanted),
-        Count::Refused(_) => tally.whole(label, 0, wanted),
-    }
+    let mut steps = [Step::default(); 96];
+    let count = baryon::staircase(d, &mut steps).unwrap_or(0);
+    tally.whole(label, digits(&steps[..count]), wanted)
 }
 
 // The row that refuses an offset, and 0 where none does.
 fn refusal(d: [i32; 3]) -> u64 {
-    let answer = baryon::staircase_by_ref(d).answer;
-    match answer {
-        Count::Value(_) => 0,
-        Count::Refused(row) => row as u64,
-    }
+    let mut steps = [Step::default(); 96];
+    u64::from(rows::row(baryon::staircase(d, &mut steps)))
 }
 
 // Staircases that no theorem computes: two of the worked examples, and four where distances as exact

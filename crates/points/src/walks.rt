@@ -1,7 +1,9 @@
 // A path of five steps, forward and back, in a field whose numbers are whole: handed over as an array
 // of structs, and as bytes.
 use crate::Tally;
-use baryon::{PathAnswer, Step};
+use baryon::Step;
+use mat::Su3;
+use rows::{Refusal, row_and_value};
 
 const EXTENTS: [usize; 4] = [2, 4, 2, 2];
 
@@ -15,9 +17,8 @@ const PRODUCT: [f64; 18] = [
 
 // Number k of the list is k mod 13, less 6.
 fn fill(links: &mut [f64; 2304]) {
-    for k in 0..2304usize {
-        let n = (k % 13) as u32;
-        links[k] = n as f64 - 6.0;
+    for (k, x) in links.iter_mut().enumerate() {
+        *x = f64::from((k % 13) as u32) - 6.0;
     }
 }
 
@@ -26,24 +27,27 @@ fn step(axis: u8, forward: bool) -> Step {
 }
 
 // From site 0 by +x, +y, -x, -t and +z.
-fn by_steps(links: &[f64; 2304]) -> PathAnswer {
-    let mut steps = [step(0, false); 96];
-    steps[0] = step(1, true);
-    steps[1] = step(2, true);
-    steps[2] = step(1, false);
-    steps[4] = step(3, true);
-    baryon::path_by_ref(EXTENTS, 0, links, steps, 5)
+fn by_steps(links: &[f64; 2304]) -> Result<(Su3, usize), Refusal> {
+    let steps = [
+        step(1, true),
+        step(2, true),
+        step(1, false),
+        step(0, false),
+        step(3, true),
+    ];
+    baryon::path(EXTENTS, 0, links, &steps)
 }
 
 // The same: a byte is twice the axis, and 1 more where the step goes forward.
-fn by_codes(links: &[f64; 2304]) -> PathAnswer {
-    baryon::path_codes(EXTENTS, 0, links, &[3u8, 5u8, 2u8, 0u8, 7u8])
+fn by_codes(links: &[f64; 2304]) -> Result<(Su3, usize), Refusal> {
+    baryon::path(EXTENTS, 0, links, &[3u8, 5u8, 2u8, 0u8, 7u8])
 }
 
-fn compare(tally: Tally, got: PathAnswer) -> Tally {
-    let t = tally.whole(b"row that refuses the path ", got.refusal as u64, 0);
-    let t = t.matrix(b"path ", got.matrix, &PRODUCT);
-    t.whole(b"path ends at ", got.site as u64, 25)
+fn compare(tally: Tally, got: Result<(Su3, usize), Refusal>) -> Tally {
+    let (row, (u, site)) = row_and_value(got, (Su3::ZERO, 0));
+    let t = tally.whole(b"row that refuses the path ", u64::from(row), 0);
+    let t = t.matrix(b"path ", u, &PRODUCT);
+    t.whole(b"path ends at ", site as u64, 25)
 }
 
 pub fn points(tally: Tally) -> Tally {

@@ -1,31 +1,19 @@
-use rows::Count;
 use sample::hash::Fnv;
 use sample::print::{hash_line, spaced_decimal};
 
 // A staircase has at most 96 steps, 32 along each axis; a step is a byte.
 
-fn with_step(h: Fnv, code: u8) -> Fnv {
-    h.word(code as u64)
-}
-
-fn with_steps(h: Fnv, codes: &[u8]) -> Fnv {
-    let mut next = h;
-    for k in 0..codes.len() {
-        next = with_step(next, codes[k]);
-    }
-    next
-}
-
 // Adds a staircase to the hash: its count, and then its steps.
 fn with_staircase(h: Fnv, d: [i32; 3]) -> Fnv {
     let mut codes = [0u8; 96];
-    let Count::Value(count) = baryon::staircase_codes(d, &mut codes) else {
+    let Ok(count) = baryon::staircase(d, &mut codes) else {
         return h;
     };
-    if count > 96 {
-        return h;
+    let mut h = h.word(count as u64);
+    for code in &codes[..count] {
+        h = h.word(u64::from(*code));
     }
-    with_steps(h.word(count as u64), &codes[..count])
+    h
 }
 
 // From -32 to 32, and so on again.
@@ -46,28 +34,17 @@ fn over_all() -> Fnv {
     h
 }
 
-fn print_step(code: u8) {
-    spaced_decimal(code as u64);
-}
-
-fn print_steps(codes: &[u8]) {
-    for k in 0..codes.len() {
-        print_step(codes[k]);
-    }
-}
-
 // A staircase step by step; the label has its offset.
 fn line(label: &[u8], d: [i32; 3]) {
     let mut codes = [0u8; 96];
-    let Count::Value(count) = baryon::staircase_codes(d, &mut codes) else {
+    let Ok(count) = baryon::staircase(d, &mut codes) else {
         return;
     };
-    if count > 96 {
-        return;
-    }
     io::write_all(1, label);
     spaced_decimal(count as u64);
-    print_steps(&codes[..count]);
+    for code in &codes[..count] {
+        spaced_decimal(u64::from(*code));
+    }
     io::write_all(1, b"\n");
 }
 

@@ -1,7 +1,7 @@
-use baryon::PathAnswer;
-use replay_lines::field_lines::{fill, number_answer_line};
+use mat::Su3;
+use replay_lines::field_lines::{fill, number_line};
 use rng::Rng;
-use rows::Number;
+use rows::Refusal;
 use sample::hash::Fnv;
 use sample::inputs::{Kind, SEED};
 use sample::print::hash_line;
@@ -10,27 +10,27 @@ use sample::print::hash_line;
 const EXTENTS: [usize; 4] = [2, 6, 4, 2];
 
 // The loops' quarks, x, y, z each.
-const UNIT: [i32; 9] = [1, 0, 0, 0, 1, 0, 0, 0, 1];
+const UNIT: [[i32; 3]; 3] = [[1, 0, 0], [0, 1, 0], [0, 0, 1]];
 
-pub const NEAR: [i32; 9] = [0, 5, 1, 2, 3, 1, 3, 1, 2];
+pub const NEAR: [[i32; 3]; 3] = [[0, 5, 1], [2, 3, 1], [3, 1, 2]];
 
-const BACKWARD: [i32; 9] = [2, -1, 0, 0, 0, -2, 0, 0, 0];
+const BACKWARD: [[i32; 3]; 3] = [[2, -1, 0], [0, 0, -2], [0, 0, 0]];
 
-const FAR: [i32; 9] = [32, 31, 30, -32, -32, -32, 7, 0, -1];
+const FAR: [[i32; 3]; 3] = [[32, 31, 30], [-32, -32, -32], [7, 0, -1]];
 
 // Adds a product and the site where it ends to the hash, and where it is refused its refusal number alone.
-fn product(h: Fnv, r: PathAnswer) -> Fnv {
-    if r.refusal != 0 {
-        return h.short(r.refusal);
+fn product(h: Fnv, r: Result<(Su3, usize), Refusal>) -> Fnv {
+    match r {
+        Ok((u, site)) => h.matrix(u).word(site as u64),
+        Err(refusal) => h.short(u32::from(refusal)),
     }
-    h.matrix(r.matrix).word(r.site as u64)
 }
 
 // Adds a number to the hash, and where it is refused its refusal number.
-fn number(h: Fnv, r: Number) -> Fnv {
+fn number(h: Fnv, r: Result<f64, Refusal>) -> Fnv {
     match r {
-        Number::Value(x) => h.number(x),
-        Number::Refused(row) => h.short(row),
+        Ok(x) => h.number(x),
+        Err(refusal) => h.short(u32::from(refusal)),
     }
 }
 
@@ -48,7 +48,7 @@ fn paths(links: &[f64]) -> Fnv {
     let mut codes = [0u8; 96];
     for site in 0..96usize {
         draw_steps(site, &mut codes);
-        h = product(h, baryon::path_codes(EXTENTS, site, links, &codes[..site]));
+        h = product(h, baryon::path(EXTENTS, site, links, &codes[..site]));
     }
     h
 }
@@ -68,8 +68,8 @@ fn time_lines(links: &[f64]) -> Fnv {
     h
 }
 
-fn baryon_loop(h: Fnv, site: usize, offsets: [i32; 9], t_len: usize, links: &[f64]) -> Fnv {
-    number(h, baryon::baryon_loop(EXTENTS, site, offsets, t_len, links))
+fn baryon_loop(h: Fnv, site: usize, quarks: [[i32; 3]; 3], t_len: usize, links: &[f64]) -> Fnv {
+    number(h, baryon::baryon_loop(EXTENTS, site, quarks, t_len, links))
 }
 
 fn baryon_loops(links: &[f64]) -> Fnv {
@@ -91,7 +91,7 @@ fn answers(name: &[u8], links: &[f64]) {
     hash_line(b"paths", paths(links));
     hash_line(b"time_lines", time_lines(links));
     hash_line(b"baryon_loops", baryon_loops(links));
-    number_answer_line(
+    number_line(
         b"baryon_loop",
         baryon::baryon_loop(EXTENTS, 0, UNIT, 2, links),
     );

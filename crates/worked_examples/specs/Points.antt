@@ -11,7 +11,7 @@ use Rattle.geometry.specs.Radix.{coords_of}
 use Rattle.geometry.specs.Steps.{fwd_of, bwd_of, parity_of}
 use Rattle.geometry.specs.Order.{sites_of}
 use Rattle.stairs.specs.Staircase.{staircase_of}
-use Rattle.baryon.specs.Codes.{code_of}
+use Rattle.stairs.specs.Codes.{code_of}
 
 -- what the definitions give, and what it has to be: whole numbers, and an f64 by its bits
 pub record Point : Type 0 where

@@ -1,24 +1,37 @@
-use Rattle.std.proofs.Common.{arith, rules}
-use Rattle.baryon.proofs.StaircaseTurn.{turn_none, inside, standing, next, count_stays, answered}
+use Rattle.std.proofs.Common.{rules, false, arith, ap, ◌∙◌, ◌≡◌, ◌<◌, length, ◌≤◌, get_or, take_all, drop, map, take}
+use Rattle.std.proofs.lemmas.Grind.{common_steps}
+use Rattle.rows.specs.Refusals.{first_refusal, refusal_in, answered, unless}
+use Rattle.stairs.specs.declared.Step.{Step}
+use Rattle.stairs.specs.Staircase.{staircase_of}
+use Rattle.stairs.proofs.Places.{length-staircase}
+use Rattle.baryon.specs.Situations.{bad_step_room}
+use Rattle.baryon.proofs.Along.{laid_more}
 use Rattle.baryon.proofs.staircases.staircase.Goals as goal
 
-pub loop-i-init : goal.loop-i-init
-loop-i-init c = turn_none _ _ c.stair_open-w.ensures
-
-pub stair_next-w-requires : goal.stair_next-w-requires
-stair_next-w-requires c = standing c.loop-i.invariant c.loop-i-test.true
+pub bounds-steps-i : goal.bounds-steps-i
+bounds-steps-i g c =
+    let len = ap length (c.as_slice-all.ensures.steps ∙ c.staircase-stairs.ensures) ∙ length-staircase c.args.d in
+    omega arith
 
 pub offset_bounds-steps-i : goal.offset_bounds-steps-i
-offset_bounds-steps-i c = let h = inside c.loop-i.invariant c.loop-i-test.true in search rules
-
-pub bounds-steps-i : goal.bounds-steps-i
-bounds-steps-i c = inside c.loop-i.invariant c.loop-i-test.true
-
-pub loop-i-smaller : goal.loop-i-smaller
-loop-i-smaller c = let e = count_stays c.loop-i.invariant _ c.stair_next-w.ensures in omega (arith, c.loop-i-test.true)
+offset_bounds-steps-i g c =
+    let len = ap length (c.as_slice-all.ensures.steps ∙ c.staircase-stairs.ensures) ∙ length-staircase c.args.d in
+    let l : c.loop-i.i < length c.loop-i.steps = omega arith in
+    search rules
 
 pub loop-i-preserved : goal.loop-i-preserved
-loop-i-preserved c = next c.loop-i.invariant c.loop-i-test.true _ c.stair_next-w.ensures
+loop-i-preserved g c =
+    let len = ap length (c.as_slice-all.ensures.steps ∙ c.staircase-stairs.ensures) ∙ length-staircase c.args.d in
+    let all = c.as_slice-all.result.now in
+    let i = c.loop-i.i in
+    record { laid = λ code h.
+      let axis : (get_or all i (record { axis = 0; forward = false })).axis < 4 = c.as_slice-all.ensures.axes i _ c.loop-i-test.true in
+      laid_more code all c.args.steps.now c.loop-i.steps i _ c.loop-i-test.true (omega arith) (c.loop-i.invariant.laid code h) (search rules) (h _ _ axis c.from.ensures) }
 
-pub returns : goal.returns
-returns c = answered c.loop-i.invariant c.loop-i-test.false _ c.stair_close.ensures
+pub returns-clause-laid : goal.returns-clause-laid
+unfolding first_refusal refusal_in answered unless bad_step_room
+returns-clause-laid g c = λ code h.
+    let len = ap length (c.as_slice-all.ensures.steps ∙ c.staircase-stairs.ensures) ∙ length-staircase c.args.d in
+    let laid = c.loop-i.invariant.laid code h in
+    let all = c.as_slice-all.ensures.steps ∙ c.staircase-stairs.ensures in
+    grind (arith, common_steps)

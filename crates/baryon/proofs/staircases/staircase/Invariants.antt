@@ -1,10 +1,9 @@
--- How many steps are laid, the walker after them, and the list with those steps at its front.
-use Rattle.std.proofs.Common.{◌-◌}
-use Rattle.baryon.proofs.StaircaseTurn.{Turn}
+use Rattle.std.proofs.Common.{◌≡◌, ◌≤◌, ◌++◌, map, take, drop, length}
+use Rattle.stairs.specs.declared.Step.{Step}
+use Rattle.baryon.specs.Calls.{Gives}
 use Rattle.baryon.proofs.staircases.staircase.Given as goal
 
 abbrev pub invariant-loop-i : goal.invariant-loop-i
-invariant-loop-i l = Turn l.d l.initial.steps l.i l.w l.steps
-
-abbrev pub decreases-loop-i : goal.decreases-loop-i
-decreases-loop-i l = l.w.count - l.i
+invariant-loop-i g l = record {
+  laid : (code : Step → _) → Gives g.S.From.from_gives code → l.steps ≡ map code (take l.i l.all) ++ drop l.i l.initial.steps;
+}

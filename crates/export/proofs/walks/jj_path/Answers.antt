@@ -1,4 +1,0 @@
-use Rattle.export.proofs.walks.jj_path.Goals as goal
-
-pub returns : goal.returns
-returns c = let e = c.path_codes-answer.ensures in record { product = record { refusal = rw e; array = rw (c.matrix_numbers.ensures, e) }; site = rw e }

@@ -1,8 +1,0 @@
-use Rattle.std.proofs.Common.{◌-◌, ◌≤◌}
-use Rattle.points.proofs.staircases.digits.Given as goal
-
-abbrev pub invariant-loop-i : goal.invariant-loop-i
-invariant-loop-i l = l.i ≤ 96
-
-abbrev pub decreases-loop-i : goal.decreases-loop-i
-decreases-loop-i l = 96 - l.i
