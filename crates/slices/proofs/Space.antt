@@ -1,19 +1,14 @@
 -- Places of space by their three coordinates.
-use Prim.Native.Nat.{ℕ, ◌+◌, ◌*◌, ◌%◌, ◌<◌, ◌≤◌}
-use mathlib.Core.List.{List, [], ◌∷◌}
-use mathlib.Core.Path.{◌≡◌, refl, ap}
-use native.Mathlib.Nat.{mul-zero, add-zero, mul-le-mul_left}
-use native.Mathlib.Omega.{arith}
-use lib.ListN.{get_or, drop}
+use Rattle.std.proofs.Common.{ℕ, ◌+◌, ◌*◌, ◌%◌, ◌<◌, List, [], ◌∷◌, map, ◌≡◌, length, get_or, drop, refl, ap, mul-zero, add-zero, arith}
+use native.Mathlib.Nat.{mod-lt, mul-le-mul_left}
 use Rattle.folds.proofs.Few.{below_three}
 use Rattle.geometry.specs.Range.{range}
-use Rattle.geometry.specs.Radix.{index_of, Within}
+use Rattle.geometry.specs.Radix.{volume, coords_of, index_of, Within}
 use Rattle.geometry.specs.Shape.{Shape}
-use Rattle.geometry.proofs.Radix.{coords_index}
+use Rattle.geometry.proofs.Range.{length-listed, listed_at}
+use Rattle.geometry.proofs.Radix.{coords_within, index_below, coords_index}
 use Rattle.geometry.proofs.Shape.{four_are}
-use Rattle.geometry.proofs.Bounds.{product}
 use Rattle.gauge.specs.Polyakov.{space}
-use Rattle.gauge.proofs.TimeLine.{places_small}
 use Rattle.slices.specs.Slices.{shifted}
 
 pub space_are : (d : List ℕ) → Shape d → space d ≡ get_or d 1 0 ∷ get_or d 2 0 ∷ get_or d 3 0 ∷ []
@@ -45,17 +40,24 @@ module _ (nx ny nz : ℕ) where
       rw (← (index_three x y z), coords_index three (x ∷ y ∷ z ∷ []) (within_three x y z a b e))
       (index_three ((x + get_or c 0 0) % nx) ((y + get_or c 1 0) % ny) ((z + get_or c 2 0) % nz))
 
--- ## bounds of a row's numbers
+-- ## offsets
 
-pub record RowSmall (d : List ℕ) (y z : ℕ) : Type 0 where
-  pub plane : get_or d 2 0 * z ≤ 256
-  pub row : y + get_or d 2 0 * z ≤ 256
-  pub place : get_or d 1 0 * (y + get_or d 2 0 * z) ≤ 4096
-  pub site : get_or d 0 0 * (get_or d 1 0 * (y + get_or d 2 0 * z)) ≤ 65536
+module _ (e c : List ℕ) (pos : 0 < volume e) (k : ℕ) where
+  abbrev sums : ℕ → ℕ
+  sums mu = (get_or (coords_of e k) mu 0 + get_or c mu 0) % get_or e mu 0
 
-pub row_small : (d : List ℕ) → Shape d → (y z : ℕ) → y < get_or d 2 0 → z < get_or d 3 0 → RowSmall d y z
-row_small d s y z hy hz =
-    let small = places_small d s in
-    let row : y + get_or d 2 0 * z ≤ 256 = omega (arith, hy, mul-le-mul_left (get_or d 2 0) hz, small.yz) in
-    let place = product 16 256 (s.each 1 (omega arith)).high row in
-    record { plane = omega (arith, row); row = row; place = place; site = product 16 4096 (s.each 0 (omega arith)).high place }
+  sums_within : Within e (map sums (range (length e)))
+  sums_within = record {
+    len = length-listed sums (length e);
+    each = λ mu h.
+        let some : 0 < get_or e mu 0 = omega (arith, (coords_within e k pos).each mu h) in
+        rw (listed_at sums 0 (length e) mu h) (mod-lt _ some);
+  }
+
+  pub shifted_below : shifted e c k < volume e
+  unfolding shifted
+  shifted_below = index_below e _ sums_within
+
+  pub shifted_coords : coords_of e (shifted e c k) ≡ map sums (range (length e))
+  unfolding shifted
+  shifted_coords = coords_index e _ sums_within
