@@ -18,7 +18,7 @@ use stairs::Stairs;
 #[tactic(auto, unfolding(folds::specs::Folds::fill))]
 fn slice_loops(
     loops: &mut [f64],
-    lattice: Su3Lattice,
+    lattice: &Su3Lattice,
     s: [usize; 5],
     t: usize,
     a: Stairs,
@@ -26,8 +26,8 @@ fn slice_loops(
     c: Stairs,
     t_len: usize,
 )
-    requires { Slice loops.old lattice.extents.d s t a b c }
-    ensures { loops.new ≡ map (λ k. loop_of lattice.entry.extents.d (link_of lattice.entry.extents.d lattice.entry.links.now) t_len (t + get_or lattice.entry.extents.d 0 0 * k) (taken a) (taken b) (taken c)) (range (places lattice.entry.extents.d)) }
+    requires { Slice loops.old lattice.now.extents.d s t a b c }
+    ensures { loops.new ≡ map (λ k. loop_of lattice.now.extents.d (link_of lattice.now.extents.d lattice.now.links.now) t_len (t + get_or lattice.now.extents.d 0 0 * k) (taken a) (taken b) (taken c)) (range (places lattice.now.extents.d)) }
 {
     let d = lattice.extents.d;
     for (k, w) in loops.iter_mut().enumerate() {
@@ -41,14 +41,14 @@ fn slice_loops(
 pub fn gather(
     loops: &mut [f64],
     grid: &mut [f64],
-    lattice: Su3Lattice,
-    densities: Densities,
+    lattice: &Su3Lattice,
+    densities: &Densities,
     o: [i32; 9],
     t_len: usize,
     w: f64,
 ) -> f64
-    requires { Gathering loops.old grid.old lattice.extents.d densities.extents.d o t_len densities.count }
-    ensures { Gathered (baryon_of lattice.entry.extents.d (link_of lattice.entry.extents.d lattice.entry.links.now) t_len o) lattice.entry.extents.d densities.entry.numbers.now t_len densities.entry.count grid.old w result grid.new }
+    requires { Gathering loops.old grid.old lattice.now.extents.d densities.now.extents.d o t_len densities.now.count }
+    ensures { Gathered (baryon_of lattice.now.extents.d (link_of lattice.now.extents.d lattice.now.links.now) t_len o) lattice.now.extents.d densities.now.numbers.now t_len densities.now.count grid.old w result grid.new }
 {
     let a = stairs::staircase(stairs::offset(o, 0));
     let b = stairs::staircase(stairs::offset(o, 1));

@@ -94,11 +94,11 @@ impl TimeSlice<'_> {
 
 // Adds each cell's sum over a slice to the grid; the densities are read at one time.
 #[tactic(auto, using(crate::proofs::SliceAdded::cell_next), unfolding(folds::specs::Folds::fill))]
-pub fn slice_cells(grid: &mut [f64], loops: &[f64], densities: Densities, time: usize)
-    requires grid { length grid.old ≡ densities.count * places densities.extents.d }
-    requires loops { length loops.now ≡ places densities.extents.d }
-    requires time { time < get_or densities.extents.d 0 0 }
-    ensures { grid.new ≡ with_slice densities.entry.extents.d (number loops.now) densities.entry.numbers.now time grid.old }
+pub fn slice_cells(grid: &mut [f64], loops: &[f64], densities: &Densities, time: usize)
+    requires grid { length grid.old ≡ densities.now.count * places densities.now.extents.d }
+    requires loops { length loops.now ≡ places densities.now.extents.d }
+    requires time { time < get_or densities.now.extents.d 0 0 }
+    ensures { grid.new ≡ with_slice densities.now.extents.d (number loops.now) densities.now.numbers.now time grid.old }
 {
     let extents = densities.extents;
     let places = places(extents);

@@ -16,9 +16,9 @@ pub fn total(l: &[f64]) -> f64
 
 // The densities' sums over all sites, each added to the sum so far.
 #[tactic(auto, using(crate::proofs::SumsSoFar::density_total, crate::proofs::SumsSoFar::sums_next, crate::proofs::SumsSoFar::sums_are), unfolding(folds::specs::Folds::fill))]
-pub fn density_sums(densities: Densities, s: [f64; 4]) -> [f64; 4]
-    requires { densities.count ≤ 4 }
-    ensures { result ≡ sums_of densities.entry.extents.d densities.entry.numbers.now densities.entry.count s }
+pub fn density_sums(densities: &Densities, s: [f64; 4]) -> [f64; 4]
+    requires { densities.now.count ≤ 4 }
+    ensures { result ≡ sums_of densities.now.extents.d densities.now.numbers.now densities.now.count s }
 {
     let mut sums = s;
     for k in 0..densities.count {

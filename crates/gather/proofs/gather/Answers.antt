@@ -15,12 +15,12 @@ use Rattle.gather.proofs.gather.Goals.{After-slice_loops}
 
 -- the loop value at each site, along the three staircases
 abbrev loop_along : After-slice_loops → ℕ → Float
-loop_along c n = let l = c.args.lattice in loop_of l.extents.d (link_of l.extents.d l.links.now) c.args.t_len n (taken c.staircase-a.result) (taken c.staircase-b.result) (taken c.staircase-c.result)
+loop_along c n = let l = c.args.lattice.now in loop_of l.extents.d (link_of l.extents.d l.links.now) c.args.t_len n (taken c.staircase-a.result) (taken c.staircase-b.result) (taken c.staircase-c.result)
 
 -- the loop values of this slice
-filled : (c : After-slice_loops) → Loops c.args.lattice.extents.d (loop_along c) c.loop-t.t c.slice_loops.new.loops
+filled : (c : After-slice_loops) → Loops c.args.lattice.now.extents.d (loop_along c) c.loop-t.t c.slice_loops.new.loops
 filled c =
-    let e = c.args.lattice.extents in
+    let e = c.args.lattice.now.extents in
     let W = loop_along c in
     record {
       len = rw c.slice_loops.ensures (length-listed _ _);
@@ -54,25 +54,25 @@ slice_loops-requires c =
 pub loop-t-preserved : goal.loop-t-preserved
 loop-t-preserved c =
     let q = c.args in
-    let d = q.lattice.extents.d in
+    let d = q.lattice.now.extents.d in
     let W = loop_along (goal.at.loop-t-preserved c).After-slice_loops in
     let loops = filled (goal.at.loop-t-preserved c).After-slice_loops in
     let t = c.loop-t in
     let some : 0 < get_or d 0 0 = omega (arith, c.loop-t-test.true) in (
       loops_next d W q.w t.t t.invariant.0 loops c.total-sum.ensures,
-      grid_next d W q.densities.numbers.now q.t_len q.densities.count q.grid.now q.lattice.extents.fits t.t (t.auto.grid ∙ c.requires.cells) loops (mod-lt _ some) t.invariant.1 (rw c.requires.same at c.slice_cells.ensures),
+      grid_next d W q.densities.now.numbers.now q.t_len q.densities.now.count q.grid.now q.lattice.now.extents.fits t.t (t.auto.grid ∙ c.requires.cells) loops (mod-lt _ some) t.invariant.1 (rw c.requires.same at c.slice_cells.ensures),
     )
 
 pub returns : goal.returns
 returns c =
     let q = c.args in
-    let d = q.lattice.extents.d in
+    let d = q.lattice.now.extents.d in
     let e : c.loop-t.t ≡ get_or d 0 0 = omega arith in
     let same =
-    loops_are d (link_of d q.lattice.links.now) q.t_len q.o
+    loops_are d (link_of d q.lattice.now.links.now) q.t_len q.o
     c.offset.ensures c.offset-2.ensures c.offset-3.ensures
     c.staircase-a.ensures c.staircase-b.ensures c.staircase-c.ensures in
     record {
       loops = loops_done _ _ _ e c.loop-t.invariant.0 ∙ ap (λ (W : ℕ → Float). loops_of d W q.w) same;
-      grid = grid_done _ _ _ _ _ _ e c.loop-t.invariant.1 ∙ ap (λ (W : ℕ → Float). grid_of d W q.densities.numbers.now q.t_len q.densities.count q.grid.now) same;
+      grid = grid_done _ _ _ _ _ _ e c.loop-t.invariant.1 ∙ ap (λ (W : ℕ → Float). grid_of d W q.densities.now.numbers.now q.t_len q.densities.now.count q.grid.now) same;
     }
