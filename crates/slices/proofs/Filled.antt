@@ -1,10 +1,7 @@
 -- Lists known place by place.
-use Rattle.std.proofs.Common.{ℕ, zero, suc, ◌+◌, ◌<◌, ◌≤◌, List, map, ◌≡◌, length, get_or, take, drop, refl, sym, ◌∙◌, add-one, arith}
-use Rattle.std.specs.List.{fold}
-use Rattle.std.proofs.lemmas.List.Sums.{fold_more}
+use Rattle.std.proofs.Common.{ℕ, ◌+◌, ◌<◌, List, map, ◌≡◌, length, get_or, take, drop, sym, ◌∙◌, arith}
 use Rattle.std.proofs.lemmas.List.{get_or-take, get_or-drop}
-use lib.Seq.{ext_get_or, take_all}
-use Rattle.folds.specs.Folds.{fold_to}
+use lib.Seq.{ext_get_or}
 use Rattle.geometry.specs.Range.{range}
 use Rattle.geometry.proofs.Range.{length-listed, listed_at}
 
@@ -21,12 +18,3 @@ module _ {A : Type 0} where
   -- a list's part
   pub part_at : (l : List A) (b n i : ℕ) (z : A) → i < n → get_or (take n (drop b l)) i z ≡ get_or l (b + i) z
   part_at l b n i z h = get_or-take n (drop b l) i z h ∙ get_or-drop b l i z
-
-  -- a fold goes over the places
-  folded_to : (op : A → A → A) (a : A) (l : List A) (z : A) (n : ℕ) → n ≤ length l → fold_to op a (λ k. get_or l k z) n ≡ fold op a (take n l)
-  unfolding fold_to
-  folded_to op a l z zero h = refl
-  folded_to op a l z (suc n) h = rw (folded_to op a l z n (omega arith)) (sym (rw (add-one n) at (fold_more op a l n z (omega arith))))
-
-  pub folded : (op : A → A → A) (a : A) (l : List A) (z : A) → fold_to op a (λ k. get_or l k z) (length l) ≡ fold op a l
-  folded op a l z = folded_to op a l z (length l) (omega arith) ∙ rw (take_all (length l) l (omega arith))

@@ -3,6 +3,7 @@ use Rattle.std.proofs.Common.{ℕ, ◌+◌, ◌*◌, ◌/◌, ◌%◌, ◌<◌, 
 use Rattle.std.specs.List.{fold}
 use lib.Ieee.{Float, nan, binary64, add}
 use Rattle.folds.specs.Folds.{fold_to}
+use Rattle.folds.proofs.Lists.{folded}
 use Rattle.folds.proofs.Laws.{fold_none, fold_next}
 use Rattle.folds.proofs.Folds.{fold_same}
 use Rattle.complex.specs.Rounded.{◌⊞◌, fzero}
@@ -11,7 +12,7 @@ use Rattle.geometry.specs.Shape.{Shape}
 use Rattle.geometry.proofs.Range.{listed_at}
 use Rattle.gauge.specs.Polyakov.{space, site_at}
 use Rattle.slices.specs.Slices.{places, mid_time, number, density_at, with_slice, cell_sum, loop_sum, grid_after, grid_of, loops_after, loops_of}
-use Rattle.slices.proofs.Filled.{listed_same, listed_is, folded}
+use Rattle.slices.proofs.Filled.{listed_same, listed_is}
 use Rattle.slices.proofs.SliceAdded.{slice_sum_same}
 
 module _ (d : List ℕ) (W : ℕ → Float) where

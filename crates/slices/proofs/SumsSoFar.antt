@@ -6,6 +6,7 @@ use lib.Seq.{ext_get_or}
 use borrow.Author.Tests.{lt-ltb, le-ltb}
 use Rattle.std.specs.List.{fold}
 use Rattle.folds.specs.Folds.{fill}
+use Rattle.folds.proofs.Lists.{folded}
 use Rattle.folds.proofs.Laws.{fill_next, fill_at, fill_past, length-fill}
 use Rattle.folds.proofs.Folds.{fold_same}
 use Rattle.complex.specs.Rounded.{◌⊞◌, fzero}
@@ -13,7 +14,7 @@ use Rattle.geometry.specs.Range.{range}
 use Rattle.geometry.specs.Radix.{volume}
 use Rattle.geometry.proofs.Range.{length-listed, listed_at}
 use Rattle.slices.specs.Slices.{number, density_at, density_sum, sums_of}
-use Rattle.slices.proofs.Filled.{part_at, folded}
+use Rattle.slices.proofs.Filled.{part_at}
 
 -- the k-th sum with the numbers of its density added
 abbrev pub added : List ℕ → List Float → List Float → ℕ → Float
