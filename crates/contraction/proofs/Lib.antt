@@ -1,3 +1,1 @@
 pub mod Contraction
-pub mod Quarks
-pub mod Staircases

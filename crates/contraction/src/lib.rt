@@ -1,5 +1,4 @@
-// The ε-contraction of three matrices, and the loop of three quarks, on a field that fits. s are the strides of
-// the extents d.
+// The ε-contraction of three matrices, and the loop of three quarks.
 #![tactic(auto)]
 
 mod baryon;

@@ -1,22 +1,13 @@
 -- The staircase arrives: along each axis the place is between the origin and the offset, and each step brings it one nearer.
-use Prim.Native.Nat.{ℕ, zero, suc, ◌+◌, ◌-◌, ◌<◌, ◌≤◌}
-use mathlib.Core.Bool.{true, cond, ◌||◌, true≢false}
-use mathlib.Core.List.{List, [], ◌∷◌, ◌++◌, map}
-use mathlib.Core.Path.{◌≡◌, refl, ap, sym, ◌∙◌}
+use Rattle.std.proofs.Common.{ℕ, zero, suc, ◌+◌, ◌-◌, ◌<◌, ◌≤◌, min, true, cond, ◌||◌, List, [], ◌∷◌, ◌++◌, map, ◌≡◌, refl, ap, sym, ◌∙◌, add-one, arith, ltb, ℤ, pos, negsuc, nat_abs, ◌+ℤ◌, length, set, ext_get_or, get_or-set_same, get_or-set_other, lt-ltb, le-ltb}
 use native.Mathlib.Decide.{ℕ_discrete, dec_lt}
-use native.Mathlib.Numerals.{add-one}
-use native.Mathlib.Omega.{arith}
-use lib.Dec.{ltb}
-use lib.IntN.{ℤ, pos, negsuc, nat_abs, ◌+ℤ◌}
-use lib.ListN.{length, set}
-use lib.Seq.{ext_get_or, get_or-set_same, get_or-set_other}
-use borrow.Author.Tests.{lt-ltb, le-ltb}
 use lib.Signed.{lt_z}
+use Rattle.std.specs.Int.{int_signum}
 use Rattle.folds.proofs.Few.{below_three}
 use Rattle.geometry.specs.Range.{range}
 use Rattle.geometry.proofs.Range.{length-listed, listed_next}
 use Rattle.stairs.specs.declared.Step.{Step}
-use Rattle.stairs.specs.Line.{along_of, signum}
+use Rattle.stairs.specs.Line.{along_of}
 use Rattle.stairs.specs.Staircase.{differs, stepped_to, best_of, step_along, place_at, step_at, steps_to, staircase_of}
 use Rattle.stairs.specs.Claims.{led_by, StaircaseArrives}
 use Rattle.stairs.proofs.Best.{best_low, best_left}
@@ -59,27 +50,19 @@ is_left (negsuc k) (negsuc m) b l = let h : k < m = omega arith in rw (le-ltb m 
 
 -- and then a step brings it one further
 less : (k m : ℕ) → k ≤ m → ltb k m || ltb m k ≡ true → k < m
-less k m b h = go (dec_lt k m)
-  where
-    go : Dec (k < m) → k < m
-    go (yes l) = l
-    go (no l) = let e : m ≤ k = omega arith in absurd (true≢false (sym h ∙ rw (le-ltb k m e, le-ltb m k b)))
+less k m b h = grind arith
 
 less_back : (k m : ℕ) → k ≤ m → ltb m k || ltb k m ≡ true → k < m
-less_back k m b h = go (dec_lt k m)
-  where
-    go : Dec (k < m) → k < m
-    go (yes l) = l
-    go (no l) = let e : m ≤ k = omega arith in absurd (true≢false (sym h ∙ rw (le-ltb k m e, le-ltb m k b)))
+less_back k m b h = grind arith
 
 record Nearer (q p d : ℤ) : Type 0 where
   between : Between q d
   further : nat_abs q ≡ nat_abs p + 1
 
-step_nearer : (p d : ℤ) → Between p d → differs p d ≡ true → Nearer (p +ℤ signum d) p d
-unfolding Between differs signum
+step_nearer : (p d : ℤ) → Between p d → differs p d ≡ true → Nearer (p +ℤ int_signum d) p d
+unfolding Between differs
 step_nearer (pos k) (pos zero) b h = absurd (let l = less k 0 b h in omega arith)
-step_nearer (pos k) (pos (suc m)) b h = let l = less k (suc m) b h in record { between = omega arith; further = refl }
+step_nearer (pos k) (pos (suc m)) b h = let l = less k (suc m) b h in record { between = omega arith; further = omega arith }
 step_nearer (pos zero) (negsuc m) b h = record { between = omega arith; further = refl }
 step_nearer (pos (suc k)) (negsuc m) b h = absurd b
 step_nearer (negsuc k) (pos m) b h = absurd b
@@ -131,15 +114,15 @@ module _ (d : List ℤ) where
   next i h b m left =
       let n = step_nearer (along_of (place_at d i) b) (along_of d b) (h.between b m) left in
       let len = long_place d i in
-      let t = steps_set (place_at d i) b (along_of (place_at d i) b +ℤ signum (along_of d b)) len m n.further in
+      let t = steps_set (place_at d i) b (along_of (place_at d i) b +ℤ int_signum (along_of d b)) len m n.further in
       (λ a k. go a k n.between (ℕ_discrete a b), t ∙ ap (λ (j : ℕ). j + 1) h.steps)
     where
-      go : (a : ℕ) → a < 3 → Between (along_of (place_at d i) b +ℤ signum (along_of d b)) (along_of d b) → Dec (a ≡ b)
-          → Between (along_of (set (place_at d i) b (along_of (place_at d i) b +ℤ signum (along_of d b))) a) (along_of d a)
+      go : (a : ℕ) → a < 3 → Between (along_of (place_at d i) b +ℤ int_signum (along_of d b)) (along_of d b) → Dec (a ≡ b)
+          → Between (along_of (set (place_at d i) b (along_of (place_at d i) b +ℤ int_signum (along_of d b))) a) (along_of d a)
       go a k n (yes e) =
           let in_list : b < length (place_at d i) = rw (long_place d i) m in
-          rw (e, get_or-set_same (place_at d i) b (along_of (place_at d i) b +ℤ signum (along_of d b)) (pos 0) in_list) n
-      go a k n (no e) = rw (get_or-set_other (place_at d i) b a (along_of (place_at d i) b +ℤ signum (along_of d b)) (pos 0) e) (h.between a k)
+          rw (e, get_or-set_same (place_at d i) b (along_of (place_at d i) b +ℤ int_signum (along_of d b)) (pos 0) in_list) n
+      go a k n (no e) = rw (get_or-set_other (place_at d i) b a (along_of (place_at d i) b +ℤ int_signum (along_of d b)) (pos 0) e) (h.between a k)
 
   on_the_way : (i : ℕ) → i ≤ steps_to d → OnTheWay d i
   unfolding place_at steps_to
@@ -170,10 +153,10 @@ module _ (d : List ℤ) where
   -- ## the steps themselves
 
   -- a step up or down is one towards the offset, where something is left
-  toward : (p e : ℤ) → Between p e → differs p e ≡ true → cond (lt_z (pos 0) e) (pos 1) (negsuc 0) ≡ signum e
-  unfolding Between differs signum
+  toward : (p e : ℤ) → Between p e → differs p e ≡ true → cond (lt_z (pos 0) e) (pos 1) (negsuc 0) ≡ int_signum e
+  unfolding Between differs
   toward (pos k) (pos zero) b h = absurd (let l = less k 0 b h in omega arith)
-  toward (pos k) (pos (suc m)) b h = rw (lt-ltb 0 (suc m) (omega arith))
+  toward (pos k) (pos (suc m)) b h = rw (lt-ltb 0 (suc m) (omega arith)) (let e : 1 ≡ min (suc m) 1 = omega arith in ap pos e)
   toward (pos zero) (negsuc m) b h = refl
   toward (pos (suc k)) (negsuc m) b h = absurd b
   toward (negsuc k) (pos m) b h = absurd b

@@ -1,89 +1,111 @@
 -- The best axis so far, axis by axis, is in the end the first of the nearest ones.
-use Prim.Native.Nat.{ℕ, ◌<◌}
-use mathlib.Core.Bool.{Bool, true, false, cond, true≢false}
-use mathlib.Core.List.{List, [], ◌∷◌, cons≢nil}
-use mathlib.Core.Path.{◌≡◌, refl, sym, ◌∙◌}
-use native.Mathlib.Omega.{arith}
-use lib.IntN.{ℤ}
-use lib.Ieee.{Float, lt}
+use Rattle.std.proofs.Common.{ℕ, zero, suc, ◌+◌, ◌<◌, Bool, true, false, cond, List, [], ◌∷◌, ◌≡◌, refl, ap, sym, ◌∙◌, ℤ, Option, None, Some, MatchOption, arith, add-one, w32, SFits, of_z, true≢false}
+use Rattle.std.proofs.lemmas.Int.{ints}
+use mathlib.Core.List.{cons≢nil}
+use Rattle.std.specs.Float.Ieee.{Float, lt}
 use Rattle.folds.proofs.Few.{below_three}
-use Rattle.complex.specs.Rounded.{fzero}
-use Rattle.stairs.specs.declared.Nearest.{Nearest}
 use Rattle.stairs.specs.Line.{along_of}
 use Rattle.stairs.specs.Staircase.{differs, step_dist, left_of, first_min, least_of, best_of}
-use Rattle.stairs.specs.Best.{is_better, better_of}
 
-abbrev pub none_found : Nearest
-none_found = record { found = false; axis = 0; dist = fzero }
+-- the better of the best axis so far, if one was found, and another, each with its distance: one as near is not better
+abbrev pub better_of : Option (ℕ × Float) → ℕ → Float → ℕ × Float
+better_of None a dist = (a, dist)
+better_of (Some best) a dist = cond (lt dist best.1) (a, dist) best
 
-abbrev found_at : List ℤ → List ℤ → ℕ → Nearest
-found_at p d a = record { found = true; axis = a; dist = step_dist p d a }
+abbrev pub axis_of : Option (ℕ × Float) → ℕ
+axis_of None = 0
+axis_of (Some best) = best.0
 
--- an axis counts if something is left along it
-unfoldable pub nearer_of : List ℤ → List ℤ → Nearest → ℕ → Nearest
-nearer_of p d best a = cond (differs (along_of p a) (along_of d a)) (better_of best a (step_dist p d a)) best
+pub differs_lem : (x y : ℤ) → SFits w32 x → SFits w32 y → (of_z w32 x ≡ of_z w32 y → ⊥) → differs x y ≡ true
+unfolding differs
+differs_lem x y f g ne = grind (arith, ints)
 
--- ## the better of two
-
-module _ (best : Nearest) (a : ℕ) (dist : Float) where
-  pub better_found : is_better best dist ≡ true → record { found = true; axis = a; dist = dist } ≡ better_of best a dist
-  unfolding better_of
-  better_found h = rw h
-
-  pub better_kept : is_better best dist ≡ false → best ≡ better_of best a dist
-  unfolding better_of
-  better_kept h = rw h
+pub same_lem : (x y : ℤ) → SFits w32 x → SFits w32 y → of_z w32 x ≡ of_z w32 y → differs x y ≡ false
+unfolding differs
+same_lem x y f g e = grind (arith, ints)
 
 module _ (p d : List ℤ) where
-  -- ## one axis
-  pub nearer_left : (best : Nearest) (a : ℕ) {dist : Float} {r : Nearest} → differs (along_of p a) (along_of d a) ≡ true → dist ≡ step_dist p d a → r ≡ better_of best a dist → r ≡ nearer_of p d best a
-  unfolding nearer_of
-  nearer_left best a h e f = rw (f, e, h)
+  -- an axis counts if something is left along it
+  abbrev pub nearer_of : Option (ℕ × Float) → ℕ → Option (ℕ × Float)
+  nearer_of best a = cond (differs (along_of p a) (along_of d a)) (Some (better_of best a (step_dist p d a))) best
 
-  pub nearer_none : (best : Nearest) (a : ℕ) → differs (along_of p a) (along_of d a) ≡ false → best ≡ nearer_of p d best a
-  unfolding nearer_of
-  nearer_none best a h = rw h
+  -- the best of the first axes
+  unfoldable pub best_below : ℕ → Option (ℕ × Float)
+  best_below zero = None
+  best_below (suc a) = nearer_of (best_below a) a
+
+  -- ## one more axis; r is whether it is better
+  module _ {best next : Option (ℕ × Float)} (a : ℕ) {dist : Float} (r : Bool) (now : best ≡ best_below a) where
+    pub left_better : differs (along_of p a) (along_of d a) ≡ true → dist ≡ step_dist p d a → MatchOption best (r ≡ true) (λ x. r ≡ lt dist x.1) → r ≡ true → next ≡ Some (a, dist) → next ≡ best_below (a + 1)
+    unfolding best_below
+    left_better left e h better is = rw (is, add-one a, ← now, left, e) (go best (rw e at h))
+      where
+        go : (best : Option (ℕ × Float)) → MatchOption best (r ≡ true) (λ x. r ≡ lt (step_dist p d a) x.1) → Some (a, step_dist p d a) ≡ Some (better_of best a (step_dist p d a))
+        go None h = refl
+        go (Some x) h = rw (sym h ∙ better)
+
+    pub left_kept : differs (along_of p a) (along_of d a) ≡ true → dist ≡ step_dist p d a → MatchOption best (r ≡ true) (λ x. r ≡ lt dist x.1) → r ≡ false → next ≡ best → next ≡ best_below (a + 1)
+    unfolding best_below
+    left_kept left e h worse is = rw (is, add-one a, ← now, left) (go best (rw e at h))
+      where
+        go : (best : Option (ℕ × Float)) → MatchOption best (r ≡ true) (λ x. r ≡ lt (step_dist p d a) x.1) → best ≡ Some (better_of best a (step_dist p d a))
+        go None h = absurd (true≢false (sym h ∙ worse))
+        go (Some x) h = rw (sym h ∙ worse)
+
+  pub none_more : {best next : Option (ℕ × Float)} (a : ℕ) → best ≡ best_below a → differs (along_of p a) (along_of d a) ≡ false → next ≡ best → next ≡ best_below (a + 1)
+  unfolding best_below
+  none_more a now none is = rw (is, add-one a, ← now, none)
 
   -- ## all of them
-  abbrev over : Nearest → List ℕ → Nearest
+  abbrev over : Option (ℕ × Float) → List ℕ → Option (ℕ × Float)
   over best [] = best
-  over best (a ∷ axes) = over (nearer_of p d best a) axes
+  over best (a ∷ axes) = over (nearer_of best a) axes
 
-  goes_on : (best : ℕ) (axes : List ℕ) → (over (found_at p d best) axes).axis ≡ first_min (step_dist p d) best (left_of p d axes)
-  unfolding nearer_of better_of is_better left_of first_min
+  abbrev found_at : ℕ → Option (ℕ × Float)
+  found_at a = Some (a, step_dist p d a)
+
+  goes_on : (best : ℕ) (axes : List ℕ) → axis_of (over (found_at best) axes) ≡ first_min (step_dist p d) best (left_of p d axes)
+  unfolding left_of first_min
   goes_on best [] = refl
   goes_on best (a ∷ axes) = go (differs (along_of p a) (along_of d a)) (goes_on best axes) (goes_on a axes)
     where
       less : (c : Bool)
-          → (over (found_at p d best) axes).axis ≡ first_min (step_dist p d) best (left_of p d axes)
-          → (over (found_at p d a) axes).axis ≡ first_min (step_dist p d) a (left_of p d axes)
-          → (over (cond c (found_at p d a) (found_at p d best)) axes).axis ≡ first_min (step_dist p d) (cond c a best) (left_of p d axes)
+          → axis_of (over (found_at best) axes) ≡ first_min (step_dist p d) best (left_of p d axes)
+          → axis_of (over (found_at a) axes) ≡ first_min (step_dist p d) a (left_of p d axes)
+          → axis_of (over (Some (cond c (a, step_dist p d a) (best, step_dist p d best))) axes) ≡ first_min (step_dist p d) (cond c a best) (left_of p d axes)
       less true x y = y
       less false x y = x
 
       go : (left : Bool)
-          → (over (found_at p d best) axes).axis ≡ first_min (step_dist p d) best (left_of p d axes)
-          → (over (found_at p d a) axes).axis ≡ first_min (step_dist p d) a (left_of p d axes)
-          → (over (cond left (cond (lt (step_dist p d a) (step_dist p d best)) (found_at p d a) (found_at p d best)) (found_at p d best)) axes).axis
+          → axis_of (over (found_at best) axes) ≡ first_min (step_dist p d) best (left_of p d axes)
+          → axis_of (over (found_at a) axes) ≡ first_min (step_dist p d) a (left_of p d axes)
+          → axis_of (over (cond left (Some (cond (lt (step_dist p d a) (step_dist p d best)) (a, step_dist p d a) (best, step_dist p d best))) (found_at best)) axes)
           ≡ first_min (step_dist p d) best (cond left (a ∷ left_of p d axes) (left_of p d axes))
       go true x y = less (lt (step_dist p d a) (step_dist p d best)) x y
       go false x y = x
 
-  begins : (axes : List ℕ) → (over none_found axes).axis ≡ least_of (step_dist p d) (left_of p d axes)
-  unfolding nearer_of better_of is_better left_of least_of
+  begins : (axes : List ℕ) → axis_of (over None axes) ≡ least_of (step_dist p d) (left_of p d axes)
+  unfolding left_of least_of
   begins [] = refl
   begins (a ∷ axes) = go (differs (along_of p a) (along_of d a)) (begins axes) (goes_on a axes)
     where
       go : (left : Bool)
-          → (over none_found axes).axis ≡ least_of (step_dist p d) (left_of p d axes)
-          → (over (found_at p d a) axes).axis ≡ first_min (step_dist p d) a (left_of p d axes)
-          → (over (cond left (found_at p d a) none_found) axes).axis ≡ least_of (step_dist p d) (cond left (a ∷ left_of p d axes) (left_of p d axes))
+          → axis_of (over None axes) ≡ least_of (step_dist p d) (left_of p d axes)
+          → axis_of (over (found_at a) axes) ≡ first_min (step_dist p d) a (left_of p d axes)
+          → axis_of (over (cond left (found_at a) None) axes) ≡ least_of (step_dist p d) (cond left (a ∷ left_of p d axes) (left_of p d axes))
       go true x y = y
       go false x y = x
 
-  pub best_of_lem : {x y z : Nearest} → x ≡ nearer_of p d none_found 0 → y ≡ nearer_of p d x 1 → z ≡ nearer_of p d y 2 → z.axis ≡ best_of p d
-  unfolding best_of
-  best_of_lem a b c = rw (c, b, a) (begins (0 ∷ 1 ∷ 2 ∷ []))
+  best_below_three : axis_of (best_below 3) ≡ best_of p d
+  unfolding best_below best_of
+  best_below_three = begins (0 ∷ 1 ∷ 2 ∷ [])
+
+  pub best_found : {best : Option (ℕ × Float)} {a n : ℕ} → a ≡ 3 → best ≡ best_below a → MatchOption best (n ≡ 0) (λ x. n ≡ x.0) → n ≡ best_of p d
+  best_found {best} {a} {n} e h found = go best found ∙ ap axis_of (h ∙ ap best_below e) ∙ best_below_three
+    where
+      go : (best : Option (ℕ × Float)) → MatchOption best (n ≡ 0) (λ x. n ≡ x.0) → n ≡ axis_of best
+      go None h = h
+      go (Some x) h = h
 
 -- ## it is one of them
 

@@ -2,3 +2,4 @@ pub mod Whole
 pub mod Best
 pub mod Places
 pub mod Arrives
+pub mod Bytes

@@ -1,23 +1,28 @@
--- The places of a staircase, step by step, and the array of its steps.
-use Prim.Native.Nat.{ℕ, zero, suc, ◌+◌, ◌-◌, ◌<◌, ◌≤◌}
-use mathlib.Core.Bool.{false}
-use mathlib.Core.List.{List, [], ◌∷◌}
-use mathlib.Core.Path.{◌≡◌, refl, ap, ◌∙◌}
+-- The places of a staircase, step by step.
+use Rattle.std.proofs.Common.{ℕ, zero, suc, ◌+◌, ◌<◌, ◌≤◌, List, [], ◌∷◌, ◌++◌, map, length, ◌≡◌, refl, ap, sym, ◌∙◌, All, false, ℤ, pos, nat_abs, ◌+ℤ◌, arith, add-one}
 use native.Mathlib.Decide.{ℕ_discrete}
-use native.Mathlib.Numerals.{add-one}
-use native.Mathlib.Omega.{arith}
-use lib.ListN.{length, set, drop, replicate, length-set}
-use lib.Seq.{get_or-set_same, get_or-set_other}
-use lib.IntN.{ℤ, pos, nat_abs, ◌+ℤ◌}
-use Rattle.folds.specs.Folds.{fill}
+use Rattle.std.proofs.Math.ListN.{set, length-set}
+use Rattle.std.proofs.Math.Seq.{get_or-set_same, get_or-set_other}
+use Rattle.std.specs.Int.{int_signum}
+use Rattle.geometry.specs.Range.{range}
+use Rattle.geometry.proofs.Range.{listed_next, length-listed, listed_at}
 use Rattle.folds.proofs.Few.{below_three}
-use Rattle.geometry.proofs.Range.{fill_front}
 use Rattle.stairs.specs.declared.Step.{Step}
-use Rattle.stairs.specs.Line.{along_of, signum}
+use Rattle.stairs.specs.Line.{along_of}
 use Rattle.stairs.specs.Offsets.{bad_offsets}
-use Rattle.stairs.specs.Staircase.{stepped_to, best_of, step_along, place_at, step_at, steps_to, staircase_of, stairs_of, no_step, Reached}
+use Rattle.stairs.specs.Staircase.{stepped_to, best_of, step_along, place_at, step_at, steps_to, Reached}
 use Rattle.stairs.proofs.Whole.{moved_near, reach_low, each_offset}
 use Rattle.stairs.proofs.Best.{best_low}
+
+-- ## so many steps
+
+pub steps_low : (d : List ℤ) → bad_offsets d ≡ false → steps_to d ≤ 96
+unfolding steps_to
+steps_low d h =
+    let x = reach_low _ (each_offset d 0 h) in
+    let y = reach_low _ (each_offset d 1 h) in
+    let z = reach_low _ (each_offset d 2 h) in
+    omega arith
 
 -- ## places
 
@@ -29,9 +34,23 @@ pub place_next : (d : List ℤ) (i : ℕ) {p q : List ℤ} {a : ℕ} → p ≡ p
 unfolding place_at
 place_next d i e f g = rw (g, f, e, add-one)
 
-pub step_is : (d : List ℤ) (i : ℕ) {p : List ℤ} {a : ℕ} {s : Step} → p ≡ place_at d i → a ≡ best_of p d → s ≡ step_along d a → s ≡ step_at d i
+-- the step that leads on joins those that are laid
+pub laid_next : (d : List ℤ) (i : ℕ) {p : List ℤ} {a : ℕ} {s : Step} {old new : List Step}
+    → old ≡ map (step_at d) (range i) → p ≡ place_at d i → a ≡ best_of p d → s ≡ step_along d a → new ≡ old ++ (s ∷ []) → new ≡ map (step_at d) (range (i + 1))
 unfolding step_at
-step_is d i e f g = rw (g, f, e)
+laid_next d i l e f g h = rw (h, l, g, f, e, add-one i) (sym (listed_next (step_at d) i))
+
+-- as many as there are steps so far
+pub laid_few : (d : List ℤ) (i : ℕ) {steps : List Step} → bad_offsets d ≡ false → i < steps_to d → steps ≡ map (step_at d) (range i) → length steps < 96
+laid_few d i h l e = let low = steps_low d h in rw (e, length-listed (step_at d) i) (omega arith)
+
+-- each goes along an axis of space
+pub axes_low : (d : List ℤ) (n : ℕ) {steps : List Step} → steps ≡ map (step_at d) (range n) → All (λ s. s.axis < 4) steps
+unfolding step_at step_along
+axes_low d n e k z h =
+    let len = ap length e ∙ length-listed (step_at d) n in
+    let low = best_low (place_at d k) d in
+    rw (e, listed_at (step_at d) z n k (rw (sym len) h)) (omega arith)
 
 pub long_place : (d : List ℤ) (i : ℕ) → length (place_at d i) ≡ 3
 unfolding place_at stepped_to
@@ -44,38 +63,13 @@ unfolding place_at stepped_to
 place_near d zero a l = below_three (λ a. nat_abs (along_of (place_at d 0) a) ≤ 0) (omega arith) (omega arith) (omega arith) a l
 place_near d (suc i) a l = go (best_of (place_at d i) d) (best_low (place_at d i) d) (place_near d i a l) (ℕ_discrete a (best_of (place_at d i) d))
   where
-    go : (b : ℕ) → b < 3 → nat_abs (along_of (place_at d i) a) ≤ i → Dec (a ≡ b) → nat_abs (along_of (set (place_at d i) b (along_of (place_at d i) b +ℤ signum (along_of d b))) a) ≤ suc i
-    go b low h (no n) = rw (get_or-set_other (place_at d i) b a (along_of (place_at d i) b +ℤ signum (along_of d b)) (pos 0) n) (omega arith)
+    go : (b : ℕ) → b < 3 → nat_abs (along_of (place_at d i) a) ≤ i → Dec (a ≡ b) → nat_abs (along_of (set (place_at d i) b (along_of (place_at d i) b +ℤ int_signum (along_of d b))) a) ≤ suc i
+    go b low h (no n) = rw (get_or-set_other (place_at d i) b a (along_of (place_at d i) b +ℤ int_signum (along_of d b)) (pos 0) n) (omega arith)
     go b low h (yes e) =
         let in_list : b < length (place_at d i) = rw (long_place d i) low in
         let m = moved_near (along_of (place_at d i) b) (along_of d b) in
         let k = rw e at h in
-        rw (e, get_or-set_same (place_at d i) b (along_of (place_at d i) b +ℤ signum (along_of d b)) (pos 0) in_list) (omega arith)
+        rw (e, get_or-set_same (place_at d i) b (along_of (place_at d i) b +ℤ int_signum (along_of d b)) (pos 0) in_list) (omega arith)
 
 pub near : (d : List ℤ) (i : ℕ) {p : List ℤ} → p ≡ place_at d i → i ≤ 96 → Reached p
 near d i e l = record { each = λ a m. rw e (let h = place_near d i a m in omega arith) }
-
--- ## so many steps
-
-pub steps_low : (d : List ℤ) → bad_offsets d ≡ false → steps_to d ≤ 96
-unfolding steps_to
-steps_low d h =
-    let x = reach_low _ (each_offset d 0 (omega arith) h) in
-    let y = reach_low _ (each_offset d 1 (omega arith) h) in
-    let z = reach_low _ (each_offset d 2 (omega arith) h) in
-    omega arith
-
--- ## the array
-
-long_none : (n : ℕ) → length (replicate n no_step) ≡ n
-long_none zero = refl
-long_none (suc n) = ap suc (long_none n)
-
-drop_none : (n k : ℕ) → drop k (replicate n no_step) ≡ replicate (n - k) no_step
-drop_none n zero = let e : n - 0 ≡ n = omega arith in rw e
-drop_none zero (suc k) = let e : 0 - suc k ≡ 0 = omega arith in rw e
-drop_none (suc n) (suc k) = let e : suc n - suc k ≡ n - k = omega arith in rw e (drop_none n k)
-
-pub stairs_are : (d : List ℤ) {n : ℕ} {steps : List Step} → bad_offsets d ≡ false → n ≡ steps_to d → steps ≡ fill (step_at d) (replicate 96 no_step) n → record { steps = steps; count = n } ≡ stairs_of d
-unfolding stairs_of staircase_of
-stairs_are d h e g = rw (g, e, fill_front (step_at d) (replicate 96 no_step) (steps_to d) (rw (long_none 96) (steps_low d h)), drop_none 96 (steps_to d))

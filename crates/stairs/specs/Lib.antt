@@ -1,6 +1,6 @@
--- `Line` has distances, `Staircase` the steps, `Offsets` which offsets are in reach, `Best` how the code finds the best axis; `Claims` names what is proved of them.
+-- `Line` has distances, `Staircase` the steps, `Codes` steps as bytes, `Offsets` which offsets are in reach; `Claims` names what is proved of them.
 pub mod Line
 pub mod Offsets
 pub mod Staircase
-pub mod Best
+pub mod Codes
 pub mod Claims

@@ -1,5 +1,5 @@
 -- The distance of a place from the straight line to an offset, in f64. Places and offsets are lists of whole numbers, one for each axis of space.
-use Rattle.std.specs.Prelude.{ℕ, zero, suc, List, get_or, ℤ, pos, negsuc, Float}
+use Rattle.std.specs.Prelude.{ℕ, List, get_or, ℤ, pos, Float}
 use Rattle.std.specs.Float.{binary64}
 use Rattle.std.specs.Float.Ieee.{add, div, of_int}
 use Rattle.folds.specs.Folds.{fold_to}
@@ -8,12 +8,6 @@ use Rattle.complex.specs.Rounded.{◌⊟◌, ◌⊠◌, fzero}
 -- the number along an axis
 abbrev pub along_of : List ℤ → ℕ → ℤ
 along_of p a = get_or p a (pos 0)
-
--- −1, 0 or 1
-unfoldable pub signum : ℤ → ℤ
-signum (pos zero) = pos 0
-signum (pos (suc n)) = pos 1
-signum (negsuc n) = negsuc 0
 
 -- and as an f64
 abbrev pub real_of : List ℤ → ℕ → Float

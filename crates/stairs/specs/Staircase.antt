@@ -1,11 +1,11 @@
 -- The staircase of unit steps from the origin to an offset d that stays as near as it can to the straight line. Definitions only.
-use Rattle.std.specs.Prelude.{ℕ, zero, suc, ◌+◌, ◌-◌, ◌<◌, ◌≤◌, Bool, false, cond, ◌||◌, List, [], ◌∷◌, ◌++◌, map, set, replicate, ℤ, pos, nat_abs, ◌+ℤ◌, Float}
+use Rattle.std.specs.Prelude.{ℕ, zero, suc, ◌+◌, ◌<◌, ◌≤◌, Bool, cond, ◌||◌, List, [], ◌∷◌, map, set, ℤ, pos, nat_abs, ◌+ℤ◌, Float}
+use Rattle.std.specs.Int.{int_signum}
 use Rattle.std.specs.Int.Signed.{lt_z}
 use Rattle.std.specs.Float.Ieee.{lt}
 use Rattle.geometry.specs.Range.{range}
 use Rattle.stairs.specs.declared.Step.{Step}
-use Rattle.stairs.specs.declared.Stairs.{Stairs}
-use Rattle.stairs.specs.Line.{along_of, signum, line_dist}
+use Rattle.stairs.specs.Line.{along_of, line_dist}
 
 -- ## One step
 
@@ -14,7 +14,7 @@ differs x y = lt_z x y || lt_z y x
 
 -- the place one step on along an axis
 unfoldable pub stepped_to : List ℤ → List ℤ → ℕ → List ℤ
-stepped_to p d a = set p a (along_of p a +ℤ signum (along_of d a))
+stepped_to p d a = set p a (along_of p a +ℤ int_signum (along_of d a))
 
 -- its distance from the line
 abbrev pub step_dist : List ℤ → List ℤ → ℕ → Float
@@ -59,13 +59,6 @@ steps_to d = nat_abs (along_of d 0) + nat_abs (along_of d 1) + nat_abs (along_of
 
 unfoldable pub staircase_of : List ℤ → List Step
 staircase_of d = map (step_at d) (range (steps_to d))
-
--- by value: the steps at the front of 96 places
-abbrev pub no_step : Step
-no_step = record { axis = 0; forward = false }
-
-unfoldable pub stairs_of : List ℤ → Stairs
-stairs_of d = record { steps = staircase_of d ++ replicate (96 - steps_to d) no_step; count = steps_to d }
 
 -- a place that so many steps can reach
 pub record Reached (p : List ℤ) : Type 0 where

@@ -2,32 +2,46 @@
 #![tactic(auto)]
 
 mod climb;
+mod codes;
 mod line;
 mod offsets;
 
-pub use climb::{staircase, step_along};
-pub use line::{best_axis, dot_product, moved};
-pub use offsets::{bad_offsets, bad_quarks, offset, steps_to};
+ghost use Rattle.std.specs.Prelude.{◌<◌, ◌≡◌, All};
 
-// A unit step along an axis of the lattice: 0 is time, 1 to 3 are x, y, z. It has two bytes, so that a
-// staircase is cheap by value.
-#[derive(Clone, Copy)]
+use arrayvec::ArrayVec;
+pub use climb::staircase;
+pub use offsets::{bad_offsets, bad_quarks, steps_to};
+use std::marker::Model;
+
+// A unit step along an axis of the lattice: 0 is time, 1 to 3 are x, y, z.
+#[derive(Clone, Copy, Default, Debug, PartialEq, Eq)]
 pub struct Step {
     pub axis: u8,
     pub forward: bool,
 }
 
-// Steps, at the front of the array, and their number.
-#[derive(Clone, Copy)]
+// At most 96 steps along axes of the lattice.
+#[derive(Drop)]
 pub struct Stairs {
-    pub steps: [Step; 96],
-    pub count: usize,
+    steps: ArrayVec<Step, 96>,
 }
 
-// The best axis so far, if one was found, and its distance.
-#[derive(Clone, Copy)]
-pub struct Nearest {
-    pub found: bool,
-    pub axis: usize,
-    pub dist: f64,
+impl Model for Stairs {
+    ghost use Rattle.std.specs.Prelude.{◌<◌, List, All};
+    ghost use Rattle.stairs.specs.declared.Step.{Step};
+
+    ghost Value = { List Step };
+
+    ghost view = { λ s. s.steps.items };
+
+    ghost invariant = { λ s. All (λ x. x.axis < 4) s.steps.items };
+}
+
+impl Stairs {
+    pub fn as_slice(&self) -> &[Step]
+        ensures steps { result.now ≡ self.now }
+        ensures axes { All (λ s. s.axis < 4) self.now }
+    {
+        self.steps.as_slice()
+    }
 }

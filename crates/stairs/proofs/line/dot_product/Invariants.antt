@@ -1,13 +1,10 @@
-use Prim.Native.Nat.{◌-◌, ◌≤◌}
-use mathlib.Core.Path.{◌≡◌}
-use lib.Ieee.{binary64, add}
+use Rattle.std.proofs.Common.{◌≡◌}
+use Rattle.std.specs.Float.{binary64}
+use Rattle.std.specs.Float.Ieee.{add}
 use Rattle.folds.specs.Folds.{fold_to}
 use Rattle.complex.specs.Rounded.{fzero, ◌⊠◌}
 use Rattle.stairs.specs.Line.{real_of}
 use Rattle.stairs.proofs.line.dot_product.Given as goal
 
 abbrev pub invariant-loop-a : goal.invariant-loop-a
-invariant-loop-a l = (l.s ≡ fold_to (add binary64) fzero (λ a. real_of l.p a ⊠ real_of l.d a) l.a) × (l.a ≤ 3)
-
-abbrev pub decreases-loop-a : goal.decreases-loop-a
-decreases-loop-a l = 3 - l.a
+invariant-loop-a l = l.s ≡ fold_to (add binary64) fzero (λ a. real_of l.p a ⊠ real_of l.d a) l.a
