@@ -50,20 +50,20 @@ impl<'a> Walker<'a> {
         self.at = steps::down(self.lattice.extents.d, self.strides, self.at, mu);
     }
 
-    // One step on: the product along it.
-    pub fn step(&mut self, u: Su3, step: Step) -> Su3
+    // One step on, and the product along it.
+    #[inline(always)]
+    pub fn step(&mut self, u: &mut Su3, step: Step)
         requires { step.axis < 4 }
         ensures field { self.new.lattice ≡ self.old.lattice }
-        ensures stepped { transporter result self.new ≡ stepped u self.old step }
+        ensures stepped { transporter u.new self.new ≡ stepped u.old self.old step }
     {
         let mu = usize::from(step.axis);
         if step.forward {
-            let product = u.mul(self.link(mu));
+            *u = u.mul(self.link(mu));
             self.up(mu);
-            product
         } else {
             self.down(mu);
-            u.mul_dag(self.link(mu))
+            *u = u.mul_dag(self.link(mu));
         }
     }
 
@@ -74,7 +74,7 @@ impl<'a> Walker<'a> {
     {
         let mut u = Su3::IDENTITY;
         for step in steps.as_slice() {
-            u = self.step(u, *step);
+            self.step(&mut u, *step);
         }
         (u, self)
     }

@@ -11,7 +11,7 @@ use Rattle.stairs.specs.Line.{along_of}
 use Rattle.stairs.specs.Staircase.{differs, stepped_to, best_of, step_along, place_at, step_at, steps_to, staircase_of}
 use Rattle.stairs.specs.Claims.{led_by, StaircaseArrives}
 use Rattle.stairs.proofs.Best.{best_low, best_left}
-use Rattle.stairs.proofs.Places.{long_place}
+use Rattle.stairs.proofs.Places.{long_place, length-staircase}
 
 -- ## along one axis
 
@@ -188,9 +188,5 @@ module _ (d : List ℤ) where
   unfolding step_at step_along
   space_axis i = let l = best_low (place_at d i) d in (omega arith, omega arith)
 
-  as_many : length (staircase_of d) ≡ steps_to d
-  unfolding staircase_of
-  as_many = length-listed (step_at d) (steps_to d)
-
 pub staircase_arrives : StaircaseArrives
-staircase_arrives = record { count = as_many; axes = space_axis; left = left_along; arrives = all_lead }
+staircase_arrives = record { count = length-staircase; axes = space_axis; left = left_along; arrives = all_lead }

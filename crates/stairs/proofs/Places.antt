@@ -10,7 +10,7 @@ use Rattle.folds.proofs.Few.{below_three}
 use Rattle.stairs.specs.declared.Step.{Step}
 use Rattle.stairs.specs.Line.{along_of}
 use Rattle.stairs.specs.Offsets.{bad_offsets}
-use Rattle.stairs.specs.Staircase.{stepped_to, best_of, step_along, place_at, step_at, steps_to, Reached}
+use Rattle.stairs.specs.Staircase.{stepped_to, best_of, step_along, place_at, step_at, steps_to, staircase_of, Reached}
 use Rattle.stairs.proofs.Whole.{moved_near, reach_low, each_offset}
 use Rattle.stairs.proofs.Best.{best_low}
 
@@ -73,3 +73,8 @@ place_near d (suc i) a l = go (best_of (place_at d i) d) (best_low (place_at d i
 
 pub near : (d : List ℤ) (i : ℕ) {p : List ℤ} → p ≡ place_at d i → i ≤ 96 → Reached p
 near d i e l = record { each = λ a m. rw e (let h = place_near d i a m in omega arith) }
+
+-- so many steps in all
+pub length-staircase : (d : List ℤ) → length (staircase_of d) ≡ steps_to d
+unfolding staircase_of
+length-staircase d = length-listed (step_at d) (steps_to d)

@@ -1,7 +1,7 @@
-#![tactic(auto, unfolding(crate::specs::Staircase::staircase_of))]
+#![tactic(auto, unfolding(crate::specs::Staircase::staircase_of), using(crate::proofs::Whole::each_quark))]
 
-ghost use Rattle.std.specs.Prelude.{◌≡◌, false};
-ghost use Rattle.stairs.specs.Offsets.{bad_offsets};
+ghost use Rattle.std.specs.Prelude.{◌≡◌, false, map};
+ghost use Rattle.stairs.specs.Offsets.{bad_offsets, bad_quarks};
 ghost use Rattle.stairs.specs.Staircase.{staircase_of};
 
 use crate::line::Line;
@@ -26,4 +26,13 @@ pub fn staircase(d: [i32; 3]) -> Stairs
         });
     }
     Stairs { steps }
+}
+
+// Those of three quarks.
+pub fn staircases(quarks: [[i32; 3]; 3]) -> [Stairs; 3]
+    requires { bad_quarks quarks ≡ false }
+    ensures { result ≡ map staircase_of quarks }
+{
+    let [a, b, c] = quarks;
+    [staircase(a), staircase(b), staircase(c)]
 }

@@ -1,6 +1,7 @@
 // The staircase of unit steps to an offset in space. An offset is one whole number for each of x, y, z.
 #![tactic(auto)]
 
+pub mod checks;
 mod climb;
 mod codes;
 mod line;
@@ -9,7 +10,7 @@ mod offsets;
 ghost use Rattle.std.specs.Prelude.{◌<◌, ◌≡◌, All};
 
 use arrayvec::ArrayVec;
-pub use climb::staircase;
+pub use climb::{staircase, staircases};
 pub use offsets::{bad_offsets, bad_quarks, steps_to};
 use std::marker::Model;
 
@@ -40,7 +41,7 @@ impl Model for Stairs {
 impl Stairs {
     pub fn as_slice(&self) -> &[Step]
         ensures steps { result.now ≡ self.now }
-        ensures axes { All (λ s. s.axis < 4) self.now }
+        ensures axes { All (λ s. s.axis < 4) result.now }
     {
         self.steps.as_slice()
     }
