@@ -1,4 +1,2 @@
-pub mod Situations
 pub mod Grids
-pub mod Answers
 pub mod Claims

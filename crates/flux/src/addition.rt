@@ -1,105 +1,91 @@
-ghost use Rattle.std.specs.Prelude.{◌≡◌, ◌+◌, length};
-ghost use Rattle.flux.specs.Sums.{with_sums, addition_of};
+ghost use Rattle.std.specs.Prelude.{◌≡◌, [], ◌∷◌, length, drop};
+ghost use Rattle.rows.specs.Refusals.{Checked};
+ghost use Rattle.rows.specs.declared.Refusal.{Refusal};
+ghost use Rattle.gauge.specs.Field.{link_of};
+ghost use Rattle.contraction.specs.Baryon.{baryon_of};
+ghost use Rattle.slices.specs.Slices.{places, grid_of, loops_of, sums_of};
+ghost use Rattle.flux.specs.Situations.{own_rows};
+ghost use Rattle.flux.specs.Sums.{addition_of};
 ghost use Rattle.flux.specs.Calls.{AddCall};
-ghost use Rattle.flux.specs.Parts.{Addable, AddedUp, Finished};
+ghost use Rattle.flux.specs.Parts.{Addable};
 
-use crate::checks::add_row;
-use crate::{FluxAccumulator, FluxAnswer};
-
-// An accumulator with other sums, and so many more samples.
-fn with_sums(acc: FluxAccumulator, sites: usize, w: f64, s: [f64; 4]) -> FluxAccumulator
-    ensures { result ≡ with_sums acc sites w s }
-{
-    let n = acc.n;
-    let offsets = acc.offsets;
-    FluxAccumulator {
-        n,
-        offsets,
-        t_len: acc.t_len,
-        count: acc.count,
-        samples: sums::more_samples(acc.samples, sites),
-        w,
-        s,
-    }
-}
-
-// Adds up a field: the grid in the second half of the scratch, the other sums in an accumulator.
-fn added(
-    scratch: &mut [f64],
-    acc: FluxAccumulator,
-    extents: [usize; 4],
-    count: u32,
-    links: &[f64],
-    densities: &[f64],
-    grid: &[f64],
-) -> FluxAccumulator
-    requires { Addable acc extents count (length links.now) (length densities.now) (length grid.now) (length scratch.old) }
-    ensures { AddedUp (addition_of acc extents count links.now densities.now grid.now scratch.old) result scratch.new }
-{
-    let k = count as usize;
-    let offsets = acc.offsets;
-    let old = acc.s;
-    slices::copy_into_second_half(scratch, grid);
-    let w = gather::gather(
-        scratch, links, densities, extents, k, offsets, acc.t_len, acc.w,
-    );
-    let s = slices::density_sums(densities, extents, k, old);
-    with_sums(acc, geometry::sites(extents), w, s)
-}
-
-// The end of an addition of any kind of loop: the new sums, where all are finite, or the old ones.
-fn finish(
-    old: FluxAccumulator,
-    new: FluxAccumulator,
-    grid: &mut [f64],
-    scratch: &mut [f64],
-) -> FluxAnswer
-    requires { length scratch.old ≡ length grid.old + length grid.old }
-    ensures { Finished old new grid.old scratch.old result grid.new scratch.new }
-{
-    let s = new.s;
-    let row = sums::store(grid, scratch, new.w, s);
-    if row != 0 {
-        return FluxAnswer {
-            refusal: row,
-            acc: old,
-        };
-    }
-    FluxAnswer {
-        refusal: 0,
-        acc: new,
-    }
-}
+use crate::{FluxAccumulator, checks};
+use gauge::Su3Lattice;
+use geometry::Extents;
+use rows::Refusal;
+use slices::Densities;
 
 impl FluxAccumulator {
+    // Whether a field and its densities are like those before, with room for more samples.
+    fn takes(&self, extents: Extents, count: u32) -> Result<(), Refusal>
+        ensures { Checked (own_rows self.now extents.d count) (λ _. (count ≡ self.now.count) × (volume self.now.n ≡ places extents.d)) result }
+    {
+        let [_, x, y, z] = extents.d;
+        if count != self.count || self.n != [x, y, z] || self.samples == u64::MAX {
+            Err(Refusal::Densities)
+        } else {
+            Ok(())
+        }
+    }
+
+    // Adds up a field: the grid in the second half of the scratch, and the new sums of the loops and densities.
+    fn added(
+        &self,
+        lattice: &Su3Lattice,
+        densities: &Densities,
+        grid: &[f64],
+        scratch: &mut [f64],
+    ) -> (f64, [f64; 4])
+        requires { Addable self.now lattice.now.extents.d densities.now.extents.d densities.now.count (length grid.now) (length scratch.old) }
+        ensures loops { result.0 ≡ loops_of lattice.now.extents.d (baryon_of lattice.now.extents.d (link_of lattice.now.extents.d lattice.now.links.now) self.now.t_len self.now.offsets) self.now.w }
+        ensures sums { result.1 ≡ sums_of lattice.now.extents.d densities.now.numbers.now densities.now.count self.now.s }
+        ensures grid { drop (length grid.now) scratch.new ≡ grid_of lattice.now.extents.d (baryon_of lattice.now.extents.d (link_of lattice.now.extents.d lattice.now.links.now) self.now.t_len self.now.offsets) densities.now.numbers.now self.now.t_len densities.now.count grid.now }
+    {
+        let (loops, sums) = scratch.split_at_mut(grid.len());
+        sums.copy_from_slice(grid);
+        let places = slices::places(lattice.extents);
+        let w = gather::gather(
+            &mut loops[..places],
+            sums,
+            lattice,
+            densities,
+            self.offsets,
+            self.t_len,
+            self.w,
+        );
+        (w, slices::density_sums(densities, self.s))
+    }
+
     // Adds a field: its loops, its densities and their products.
     pub fn add(
-        self,
+        &mut self,
         extents: [usize; 4],
         count: u32,
         links: &[f64],
         densities: &[f64],
         grid: &mut [f64],
         scratch: &mut [f64],
-    ) -> FluxAnswer
-        ensures { AddCall (addition_of self extents count links.now densities.now grid.old scratch.old) result grid.new scratch.new }
+    ) -> Result<(), Refusal>
+        ensures { AddCall (addition_of self.old extents count links.now densities.now grid.old scratch.old) result self.new grid.new scratch.new }
     {
-        let row = add_row(
-            self,
+        let extents = field_checks::checks::extents(extents)?;
+        let cells = count as usize * checks::grid(self.n)?.cells();
+        let lattice = field_checks::checks::lattice(extents, links)?;
+        checks::length(densities.len(), count as usize * extents.sites())?;
+        checks::length(grid.len(), cells)?;
+        checks::length(scratch.len(), 2 * cells)?;
+        checks::parameters(self.offsets, self.t_len, count)?;
+        self.takes(extents, count)?;
+        let densities = Densities {
             extents,
-            count,
-            links.len(),
-            densities.len(),
-            grid.len(),
-            scratch.len(),
-        );
-        if row != 0 {
-            return FluxAnswer {
-                refusal: row,
-                acc: self,
-            };
-        }
-        let new = added(scratch, self, extents, count, links, densities, grid);
-        finish(self, new, grid, scratch)
+            count: count as usize,
+            numbers: densities,
+        };
+        let (w, s) = self.added(&lattice, &densities, grid, scratch);
+        sums::store(grid, scratch, w, s)?;
+        self.samples = sums::more_samples(self.samples, extents.sites());
+        self.w = w;
+        self.s = s;
+        Ok(())
     }
 }

@@ -1,38 +1,49 @@
-ghost use Rattle.flux.specs.Calls.{MeanCall, CorrelationCall};
+ghost use Rattle.std.specs.Prelude.{◌≡◌, ◌<◌, length};
+ghost use Rattle.flux.specs.Means.{means_of};
+ghost use Rattle.flux.specs.Calls.{mean_call, CorrelationCall};
 
-use crate::checks::{correlation_row, mean_row};
-use crate::{FluxAccumulator, product_of_means};
-use rows::{ListAnswer, Number};
+use crate::{FluxAccumulator, checks};
+use rows::Refusal;
 use sums::mean;
 
 impl FluxAccumulator {
     // The mean of the loops so far.
-    pub fn mean_loop(self) -> Number
-        ensures { MeanCall self result }
+    pub fn mean_loop(self) -> Result<f64, Refusal>
+        ensures { result ≡ mean_call self }
     {
-        let row = mean_row(self);
-        if row != 0 {
-            return Number::Refused(row);
+        checks::grid(self.n)?;
+        checks::parameters(self.offsets, self.t_len, self.count)?;
+        if self.samples == 0 {
+            return Err(Refusal::NoMean);
         }
-        field_checks::checked_number(mean(self.w, self.samples))
+        field_checks::checks::finite(mean(self.w, self.samples))
     }
 
-    // The correlation of the loop with the k-th density at every offset: first every number is tested, and
-    // then worked out again and stored.
-    pub fn correlation(self, k: u32, grid: &[f64], out: &mut [f64]) -> ListAnswer
+    // Mean loop times mean density.
+    fn product_of_means(self, k: u32) -> f64
+        requires { k < 4 }
+        ensures { result ≡ means_of self k }
+    {
+        mean(self.w, self.samples) * mean(self.s[k as usize], self.samples)
+    }
+
+    // The correlation of the loop with the k-th density at every offset.
+    pub fn correlation(self, k: u32, grid: &[f64], out: &mut [f64]) -> Result<(), Refusal>
         ensures { CorrelationCall self k grid.now out.old result out.new }
     {
-        let row = correlation_row(self, k, grid.len(), out.len());
-        if row != 0 {
-            return ListAnswer { refusal: row };
+        let cells = checks::grid(self.n)?.cells();
+        checks::length(grid.len(), self.count as usize * cells)?;
+        checks::length(out.len(), cells)?;
+        checks::parameters(self.offsets, self.t_len, self.count)?;
+        if k >= self.count {
+            return Err(Refusal::Densities);
         }
-        let means = product_of_means(self, k);
+        let means = self.product_of_means(k);
+        if self.samples == 0 || means == 0.0 {
+            return Err(Refusal::NoMean);
+        }
         let samples = std::num::nearest_u64_to_f64(self.samples);
-        let first = k as usize * out.len();
-        if !sums::ratios_finite(grid, first, out.len(), samples, means) {
-            return ListAnswer { refusal: 10 };
-        }
-        sums::store_ratios(grid, first, samples, means, out);
-        ListAnswer { refusal: 0 }
+        let first = k as usize * cells;
+        sums::store_ratios(&grid[first..first + cells], samples, means, out)
     }
 }

@@ -1,24 +1,19 @@
 -- The claims of specs/Claims.antt.
-use Prim.Native.Nat.{ℕ, zero, suc, ◌+◌, ◌*◌, ◌/◌, ◌%◌, ◌<◌}
-use mathlib.Core.List.{List, [], ◌∷◌, map}
-use mathlib.Core.Path.{◌≡◌, ap, sym, ◌∙◌}
-use native.Mathlib.Nat.{add-zero, mod-lt, mod-eq_of_lt, div-eq_of_lt, mul-le-mul_right, mul-add-div_right, mul-add-mod_self_right, mod-add-div}
-use native.Mathlib.Omega.{arith}
+use Rattle.std.proofs.Common.{ℕ, zero, suc, ◌+◌, ◌*◌, ◌/◌, ◌%◌, ◌<◌, List, [], ◌∷◌, ◌≡◌, length, get_or, refl, ap, sym, ◌∙◌, add-zero, mod-eq_of_lt, arith}
+use native.Mathlib.Nat.{mod-lt, div-eq_of_lt, mul-le-mul_right, mul-add-div_right, mul-add-mod_self_right, mod-add-div}
 use lib.Ieee.{Float, nan, binary64, add}
-use lib.ListN.{length, get_or}
-use Rattle.complex.specs.Rounded.{◌⊠◌, fzero}
-use Rattle.geometry.specs.Range.{range}
+use Rattle.folds.proofs.Folds.{fold_same}
 use Rattle.geometry.specs.Radix.{volume, coords_of, Within}
 use Rattle.geometry.specs.Shape.{Shape}
-use Rattle.geometry.proofs.Range.{length-listed, listed_at}
-use Rattle.geometry.proofs.Radix.{left_pos, coords_within, index_below, coords_index}
-use Rattle.geometry.proofs.Shape.{axis_in}
 use Rattle.geometry.proofs.Bounds.{quotient_below}
+use Rattle.geometry.proofs.Radix.{left_pos, coords_within, coords_index}
+use Rattle.geometry.proofs.Range.{listed_at}
 use Rattle.gauge.specs.Polyakov.{space, site_at}
 use Rattle.gauge.proofs.TimeLine.{site_at_lem, site_below}
-use Rattle.slices.specs.Slices.{places, shifted, density_at, product_at, slice_sum, cell_sum, grid_after, grid_of}
+use Rattle.slices.specs.Slices.{places, mid_time, density_at, cell_sum, grid_after, grid_of}
 use Rattle.slices.specs.Claims.{SitesBySlices, OffsetsWrap, GridIsSumOfSlices, DensitiesApart}
-use Rattle.folds.proofs.Folds.{fold_same}
+use Rattle.slices.proofs.SliceAdded.{slice_sum_same}
+use Rattle.slices.proofs.Space.{shifted_below, shifted_coords}
 
 -- ## sites
 
@@ -50,26 +45,6 @@ sites_by_slices = record { below = site_below; coords = site_coords; every = eve
 
 -- ## offsets
 
-module _ (e c : List ℕ) (pos : 0 < volume e) (k : ℕ) where
-  abbrev sums : ℕ → ℕ
-  sums mu = (get_or (coords_of e k) mu 0 + get_or c mu 0) % get_or e mu 0
-
-  sums_within : Within e (map sums (range (length e)))
-  sums_within = record {
-    len = length-listed sums (length e);
-    each = λ mu h.
-        let some : 0 < get_or e mu 0 = omega (arith, (coords_within e k pos).each mu h) in
-        rw (listed_at sums 0 (length e) mu h) (mod-lt _ some);
-  }
-
-  pub shifted_below : shifted e c k < volume e
-  unfolding shifted
-  shifted_below = index_below e _ sums_within
-
-  shifted_coords : coords_of e (shifted e c k) ≡ map sums (range (length e))
-  unfolding shifted
-  shifted_coords = coords_index e _ sums_within
-
 pub offsets_wrap : OffsetsWrap
 offsets_wrap = record { below = shifted_below; coords = shifted_coords }
 
@@ -95,20 +70,15 @@ grid_is_sum_of_slices d W dens t_len count old k r h g = listed_at _ nan (count 
 -- ## each density by itself
 
 module _ (d : List ℕ) (shape : Shape d) (W S T : ℕ → Float) (same : (n : ℕ) → n < volume d → S n ≡ T n) where
-  axis : 0 < length d
-  axis = axis_in d shape 0 (omega arith)
-
   time : 0 < get_or d 0 0
   time = omega (arith, (shape.each 0 (omega arith)).low)
 
-  cell_same : (t_len t r : ℕ) → 0 < places d → cell_sum d W S t_len t r ≡ cell_sum d W T t_len t r
-  unfolding cell_sum slice_sum product_at
-  cell_same t_len t r some =
-      fold_same (add binary64) fzero _ _ (places d)
-      (λ k h. ap (λ (x : Float). W (site_at d t k) ⊠ x) (same _ (site_below d axis _ _ (mod-lt _ time) (shifted_below (space d) _ some k))))
+  cell_same : (t_len t r : ℕ) → cell_sum d W S t_len t r ≡ cell_sum d W T t_len t r
+  unfolding cell_sum
+  cell_same t_len t r = slice_sum_same d _ _ S T (mid_time d t_len t) (coords_of (space d) r) shape (mod-lt _ time) (λ k h. refl) same
 
 pub densities_apart : DensitiesApart
 densities_apart d shape W dens other t_len count old k h same r g =
     grid_is_sum_of_slices d W dens t_len count old k r h g
-    ∙ fold_same (add binary64) _ _ _ (get_or d 0 0) (λ t i. cell_same d shape W (density_at d dens k) (density_at d other k) same t_len t r (omega arith))
+    ∙ fold_same (add binary64) _ _ _ (get_or d 0 0) (λ t i. cell_same d shape W (density_at d dens k) (density_at d other k) same t_len t r)
     ∙ sym (grid_is_sum_of_slices d W other t_len count old k r h g)

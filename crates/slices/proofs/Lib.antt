@@ -1,6 +1,6 @@
--- `Laws` are for a caller that goes over the slices, `Places` has places of space by their coordinates, `Claims` proves what specs/Claims.antt names. The others serve the functions' proofs.
+-- `Laws` are for a caller that goes over the slices, `Space` has places of space by their coordinates, `Claims` proves what specs/Claims.antt names. The others serve the functions' proofs.
 pub mod Laws
-pub mod Places
+pub mod Space
 pub mod Claims
 pub mod Filled
 pub mod RowInTwo

@@ -1,61 +1,46 @@
 -- A row's two runs, up to its end and on from its beginning, are its sum.
-use Prim.Native.Nat.{ℕ, ◌+◌, ◌-◌, ◌*◌, ◌%◌, ◌<◌}
-use mathlib.Core.List.{List}
-use mathlib.Core.Path.{◌≡◌, ap, ◌∙◌}
-use native.Mathlib.Nat.{mod-eq_of_lt, add-mul-mod_self_left, mul-add}
-use native.Mathlib.Omega.{arith}
-use lib.Ieee.{Float, binary64, add}
-use lib.ListN.{length}
+use Rattle.std.proofs.Common.{ℕ, ◌+◌, ◌-◌, ◌*◌, ◌%◌, ◌<◌, List, ◌≡◌, length, take, drop, ap, ◌∙◌, length-drop, mul-add, mod-eq_of_lt, arith}
+use native.Mathlib.Nat.{add-mul-mod_self_left}
+use Rattle.std.proofs.lemmas.List.{get_or-take, get_or-drop, take_rest}
+use lib.Ieee.{Float, nan, binary64, add}
 use Rattle.folds.specs.Folds.{fold_to}
+use Rattle.folds.proofs.Folds.{fold_same, fold_more}
 use Rattle.complex.specs.Rounded.{◌⊠◌}
 use Rattle.slices.specs.Slices.{number}
-use Rattle.slices.specs.Parts.{run_sum, wrapped_sum, Run, CellRow}
-use Rattle.folds.proofs.Folds.{fold_same, fold_more}
+use Rattle.slices.specs.Parts.{run_sum, wrapped_sum, Reaches}
 
-module _ (w dens : List Float) (first at nt nx rx : ℕ) where
-  module _ (row : CellRow w dens first at nt nx rx) where
-    pub to_end : Run w dens first (at + nt * rx) nt (nx - rx)
-    to_end = record {
-      loops = omega (arith, row.run.loops);
-      densities = λ i h. let g : rx + i < nx = omega (arith, h) in omega (arith, row.run.densities (rx + i) g, mul-add nt rx i);
-    }
+module _ (w S : List Float) (nt rx : ℕ) (h : rx < length w) where
+  abbrev m : ℕ
+  m = length w - rx
 
-    pub from_start : Run w dens (first + (nx - rx)) at nt rx
-    from_start = record { loops = omega (arith, row.run.loops, row.offset); densities = λ i h. row.run.densities i (omega (arith, row.offset, h)) }
+  pub to_end : Reaches w S nt → {front : List Float} → length front ≡ m → Reaches front (take (length S - nt * rx) (drop (nt * rx) S)) nt
+  to_end reach len = record {
+    each = λ i g.
+        let there : nt * (rx + i) < length S = reach.each (rx + i) (omega (arith, g, len, h)) in
+        rw (take_rest S (nt * rx), length-drop (nt * rx) S) (omega (arith, there, mul-add nt rx i));
+  }
 
-    -- the density of the row's first number that is read is there
-    pub start_there : at + nt * rx < length dens
-    start_there = row.run.densities rx row.offset
+  term : ℕ → Float
+  term x = number w x ⊠ number S (nt * ((x + rx) % length w))
 
-  abbrev term : ℕ → Float
-  term x = number w (first + x) ⊠ number dens (at + nt * ((x + rx) % nx))
+  whole : m + rx ≡ length w
+  whole = omega (arith, h)
 
-  pub row_is : rx < nx → (sum : Float) → run_sum w dens (first + (nx - rx)) at nt rx (run_sum w dens first (at + nt * rx) nt (nx - rx) sum) ≡ wrapped_sum w dens first at nt nx rx sum
-  unfolding run_sum wrapped_sum
-  row_is h sum =
-      ap (λ (s : Float). fold_to (add binary64) s later rx) (fold_same (add binary64) sum _ term m front)
-      ∙ fold_same (add binary64) (fold_to (add binary64) sum term m) later (λ i. term (m + i)) rx back
-      ∙ fold_more (add binary64) sum term m rx
-      ∙ ap (fold_to (add binary64) sum term) whole
-    where
-      m : ℕ
-      m = nx - rx
+  before : (k : ℕ) → k < m → number (take m w) k ⊠ number (drop (nt * rx) S) (nt * k) ≡ number w k ⊠ number S (nt * ((k + rx) % length w))
+  before k g =
+      let e : (k + rx) % length w ≡ rx + k = mod-eq_of_lt (omega (arith, g, h)) ∙ omega arith in
+      rw (e, mul-add nt rx k, get_or-take m w k nan g, get_or-drop (nt * rx) S (nt * k) nan)
 
-      later : ℕ → Float
-      later i = number w (first + m + i) ⊠ number dens (at + nt * i)
+  after : (i : ℕ) → i < rx → number (drop m w) i ⊠ number S (nt * i) ≡ number w (m + i) ⊠ number S (nt * ((m + i + rx) % length w))
+  after i g =
+      let over : m + i + rx ≡ i + length w * 1 = omega (arith, whole) in
+      let e : (m + i + rx) % length w ≡ i = ap (λ (j : ℕ). j % length w) over ∙ add-mul-mod_self_left i (length w) 1 ∙ mod-eq_of_lt (omega (arith, g, h)) in
+      rw (e, get_or-drop m w i nan)
 
-      whole : m + rx ≡ nx
-      whole = omega (arith, h)
-
-      front : (k : ℕ) → k < m → number w (first + k) ⊠ number dens (at + nt * rx + nt * k) ≡ term k
-      front k g =
-          let e : (k + rx) % nx ≡ k + rx = mod-eq_of_lt (omega (arith, g, h)) in
-          let p : at + nt * rx + nt * k ≡ at + nt * ((k + rx) % nx) = rw e (omega (arith, mul-add nt k rx)) in
-          ap (λ (j : ℕ). number w (first + k) ⊠ number dens j) p
-
-      back : (i : ℕ) → i < rx → later i ≡ term (m + i)
-      back i g =
-          let over : m + i + rx ≡ i + nx * 1 = omega (arith, whole) in
-          let e : (m + i + rx) % nx ≡ i = ap (λ (j : ℕ). j % nx) over ∙ add-mul-mod_self_left i nx 1 ∙ mod-eq_of_lt (omega (arith, g, h)) in
-          let a : first + m + i ≡ first + (m + i) = omega arith in
-          rw (a, e)
+  pub row_is : {front back : List Float} → front ≡ take m w → back ≡ drop m w → length front ≡ m → (sum : Float) → {s : Float}
+      → s ≡ run_sum front (take (length S - nt * rx) (drop (nt * rx) S)) nt sum → run_sum back S nt s ≡ wrapped_sum w S nt rx sum
+  unfolding run_sum wrapped_sum term
+  row_is {front} {back} f b len sum e =
+      let left : length back ≡ rx = rw (b, length-drop m w) (omega (arith, h)) in
+      rw (e, left, len, f, b, take_rest S (nt * rx), fold_same (add binary64) sum _ term m before)
+      (fold_same (add binary64) (fold_to (add binary64) sum term m) _ (λ i. term (m + i)) rx after ∙ fold_more (add binary64) sum term m rx ∙ ap (fold_to (add binary64) sum term) whole)

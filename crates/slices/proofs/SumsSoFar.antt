@@ -1,46 +1,44 @@
 -- The sums of the densities, one by one.
-use Prim.Native.Nat.{ℕ, ◌+◌, ◌*◌, ◌<◌, ◌≤◌}
-use mathlib.Core.Bool.{cond}
-use mathlib.Core.List.{List, map}
-use mathlib.Core.Path.{◌≡◌, sym, ◌∙◌}
+use Rattle.std.proofs.Common.{ℕ, ◌+◌, ◌*◌, ◌<◌, ◌≤◌, cond, List, map, ◌≡◌, length, take, drop, sym, ◌∙◌, set, ltb, arith}
 use native.Mathlib.Decide.{dec_lt}
-use native.Mathlib.Nat.{mul-le-mul_right}
-use native.Mathlib.Omega.{arith}
-use lib.Dec.{ltb}
 use lib.Ieee.{Float, nan, binary64, add}
-use lib.ListN.{length, set}
 use lib.Seq.{ext_get_or}
 use borrow.Author.Tests.{lt-ltb, le-ltb}
-use Rattle.folds.specs.Folds.{fold_to, fill}
+use Rattle.std.specs.List.{fold}
+use Rattle.folds.specs.Folds.{fill}
+use Rattle.folds.proofs.Lists.{folded}
 use Rattle.folds.proofs.Laws.{fill_next, fill_at, fill_past, length-fill}
+use Rattle.folds.proofs.Folds.{fold_same}
 use Rattle.complex.specs.Rounded.{◌⊞◌, fzero}
 use Rattle.geometry.specs.Range.{range}
 use Rattle.geometry.specs.Radix.{volume}
 use Rattle.geometry.proofs.Range.{length-listed, listed_at}
-use Rattle.slices.specs.Slices.{number, numbers_from, density_sum, sums_of}
-use Rattle.slices.specs.Parts.{Densities}
+use Rattle.slices.specs.Slices.{number, density_at, density_sum, sums_of}
+use Rattle.slices.proofs.Filled.{part_at}
 
--- the k-th sum with the numbers of its density added, of which there are v
-abbrev pub added : List Float → ℕ → List Float → ℕ → Float
-added dens v s k = number s k ⊞ fold_to (add binary64) fzero (numbers_from dens (k * v)) v
+-- the k-th sum with the numbers of its density added
+abbrev pub added : List ℕ → List Float → List Float → ℕ → Float
+added d dens s k = number s k ⊞ density_sum d dens k
 
-pub part_there : (dens : List Float) (d : List ℕ) (count : ℕ) → Densities dens d count → (k : ℕ) → k < count → (v : ℕ) → v ≡ volume d → k * v + v ≤ length dens
-part_there dens d count q k h v e = rw e (let next = mul-le-mul_right (volume d) h in omega (arith, next, q.len))
+pub density_total : (d : List ℕ) (dens : List Float) (k : ℕ) {l : List Float} {x : Float} → l ≡ take (volume d) (drop (k * volume d) dens) → length l ≡ volume d
+    → x ≡ fold (add binary64) fzero l → x ≡ density_sum d dens k
+unfolding density_sum
+density_total d dens k {l} is len e =
+    e ∙ sym (folded (add binary64) fzero l nan) ∙ rw (len, is) (fold_same (add binary64) fzero _ (density_at d dens k) (volume d) (λ i h. part_at dens (k * volume d) (volume d) i nan h))
 
-pub sums_next : (dens : List Float) (v : ℕ) (s : List Float) (k : ℕ) {r : List Float} {x : Float} → r ≡ fill (added dens v s) s k
-    → x ≡ fold_to (add binary64) fzero (numbers_from dens (k * v)) v → set r k (number r k ⊞ x) ≡ fill (added dens v s) s (k + 1)
-sums_next dens v s k e sum = fill_next _ _ _ e (rw (sum, e, fill_past (added dens v s) s nan k k (omega arith)))
+pub sums_next : (d : List ℕ) (dens s : List Float) (k : ℕ) {r : List Float} {x : Float} → r ≡ fill (added d dens s) s k → x ≡ density_sum d dens k
+    → set r k (number r k ⊞ x) ≡ fill (added d dens s) s (k + 1)
+sums_next d dens s k e sum = fill_next _ _ _ e (rw (sum, e, fill_past (added d dens s) s nan k k (omega arith)))
 
-pub sums_are : (dens : List Float) (d : List ℕ) (count : ℕ) (s : List Float) → Densities dens d count → (v : ℕ) → v ≡ volume d → length s ≡ 4
-    → fill (added dens v s) s count ≡ sums_of d dens count s
-unfolding sums_of density_sum
-sums_are dens d count s q v same four =
-    ext_get_or nan (fill (added dens v s) s count) (map rule (range 4)) (length-fill (added dens v s) s count ∙ four ∙ sym (length-listed rule 4))
-    (λ k h. let g : k < 4 = omega (arith, length-fill (added dens v s) s count, four) in go k g (dec_lt k count) ∙ sym (listed_at rule nan 4 k g))
+pub sums_are : (d : List ℕ) (dens : List Float) (count : ℕ) (s : List Float) → count ≤ 4 → length s ≡ 4 → fill (added d dens s) s count ≡ sums_of d dens count s
+unfolding sums_of
+sums_are d dens count s few four =
+    ext_get_or nan (fill (added d dens s) s count) (map rule (range 4)) (length-fill (added d dens s) s count ∙ four ∙ sym (length-listed rule 4))
+    (λ k h. let g : k < 4 = omega (arith, length-fill (added d dens s) s count, four) in go k g (dec_lt k count) ∙ sym (listed_at rule nan 4 k g))
   where
     rule : ℕ → Float
-    rule k = cond (ltb k count) (number s k ⊞ fold_to (add binary64) fzero (numbers_from dens (k * volume d)) (volume d)) (number s k)
+    rule k = cond (ltb k count) (added d dens s k) (number s k)
 
-    go : (k : ℕ) → k < 4 → Dec (k < count) → number (fill (added dens v s) s count) k ≡ rule k
-    go k g (yes h) = fill_at (added dens v s) s nan count k h (omega (arith, q.few, four)) ∙ rw (lt-ltb k count h, same)
-    go k g (no h) = fill_past (added dens v s) s nan count k (omega arith) ∙ rw (le-ltb k count (omega arith))
+    go : (k : ℕ) → k < 4 → Dec (k < count) → number (fill (added d dens s) s count) k ≡ rule k
+    go k g (yes h) = fill_at (added d dens s) s nan count k h (omega (arith, few, four)) ∙ rw (lt-ltb k count h)
+    go k g (no h) = fill_past (added d dens s) s nan count k (omega arith) ∙ rw (le-ltb k count (omega arith))

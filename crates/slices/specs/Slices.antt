@@ -1,6 +1,6 @@
 -- Accumulation for any loop value W at each site. The grid has a number for each density and each offset r in space: the sum over all sites of the loop value there times
 -- the density at that offset, at the loop's middle time. Every slice of equal time is summed from +0; the slices' sums are added in the order of time.
-use Rattle.std.specs.Prelude.{ℕ, ◌+◌, ◌*◌, ◌/◌, ◌%◌, cond, List, ◌++◌, map, ltb, Float, length, get_or, take}
+use Rattle.std.specs.Prelude.{ℕ, ◌+◌, ◌*◌, ◌/◌, ◌%◌, cond, List, map, ltb, Float, length, get_or}
 use Rattle.std.specs.Float.{nan, binary64}
 use Rattle.std.specs.Float.Ieee.{add}
 use Rattle.folds.specs.Folds.{fold_to}
@@ -46,13 +46,12 @@ product_at d w S tm c k = w k ⊠ S (site_at d tm (shifted (space d) c k))
 unfoldable pub slice_sum : List ℕ → (ℕ → Float) → (ℕ → Float) → ℕ → List ℕ → Float
 slice_sum d w S tm c = fold_to (add binary64) fzero (product_at d w S tm c) (places d)
 
--- a list that begins with the slice's loop values and whose second half has the grid: each number of the grid with the slice's sum added
-unfoldable pub with_slice : List ℕ → List Float → ℕ → ℕ → List Float → List Float
-with_slice d dens count tm s =
-    take (count * places d) s
-    ++ map
-    (λ j. number s (count * places d + j) ⊞ slice_sum d (number s) (density_at d dens (j / places d)) tm (coords_of (space d) (j % places d)))
-    (range (count * places d))
+-- the grid with the slice's sums added, density first, then offset
+unfoldable pub with_slice : List ℕ → (ℕ → Float) → List Float → ℕ → List Float → List Float
+with_slice d w dens tm grid =
+    map
+    (λ j. number grid j ⊞ slice_sum d w (density_at d dens (j / places d)) tm (coords_of (space d) (j % places d)))
+    (range (length grid))
 
 -- ## All slices
 

@@ -1,10 +1,25 @@
 // One slice's sums for every cell of the grid. There is no division and no test inside a row: it goes up to
-// where the offset reaches the row's end, and then on from its beginning. Throughout, w begins with the
-// slice's loop values, the density stands in its list from b on, tm is the time at which it is read,
-// and c are the coordinates of the cell's offset.
-ghost use Rattle.std.specs.Prelude.{◌≡◌, ◌+◌, ◌%◌, ◌<◌};
-ghost use Rattle.slices.specs.Slices.{number, numbers_from, product_at, slice_sum, with_slice};
-ghost use Rattle.slices.specs.Parts.{run_sum, wrapped_sum, plane_sum, Run, CellRow, Cell, CellPlane, Scratch};
+// where the offset reaches the row's end, and then on from its beginning. Throughout, c are the coordinates of
+// the cell's offset.
+ghost use Rattle.std.specs.Prelude.{◌≡◌, ◌+◌, ◌*◌, ◌%◌, ◌<◌, ◌≤◌, length, get_or};
+ghost use Rattle.geometry.specs.Radix.{Within};
+ghost use Rattle.gauge.specs.Polyakov.{space};
+ghost use Rattle.slices.specs.Slices.{places, number, product_at, slice_sum, with_slice};
+ghost use Rattle.slices.specs.Parts.{run_sum, wrapped_sum, plane_sum, Reaches};
+
+use crate::Densities;
+use crate::time_slice::TimeSlice;
+use geometry::Extents;
+
+// The number of places of space.
+#[tactic(auto, using(gauge::proofs::TimeLine::places_are))]
+pub fn places(extents: Extents) -> usize
+    ensures places { result ≡ places extents.d }
+    ensures bounds { (0 < result) × (result ≤ 4096) }
+{
+    let d = extents.d;
+    d[1] * (d[2] * d[3])
+}
 
 // A number below 2n, modulo n.
 fn wrap(a: usize, n: usize) -> usize
@@ -14,109 +29,90 @@ fn wrap(a: usize, n: usize) -> usize
     if a < n { a } else { a - n }
 }
 
-// Goes on with n loop values and as many numbers of a density, nt apart.
-fn run(w: &[f64], dens: &[f64], first: usize, at: usize, nt: usize, n: usize, sum: f64) -> f64
-    requires { Run w.now dens.now first at nt n }
-    ensures { result ≡ run_sum w.now dens.now first at nt n sum }
+// Goes on with loop values, each times a number of the density; these are nt apart.
+#[tactic(auto, unfolding(folds::specs::Folds::fold_to, crate::specs::Parts::run_sum))]
+fn run(loops: &[f64], density: &[f64], nt: usize, sum: f64) -> f64
+    requires { Reaches loops.now density.now nt }
+    ensures { result ≡ run_sum loops.now density.now nt sum }
 {
     let mut s = sum;
-    for i in 0..n {
-        s += w[first + i] * dens[at + nt * i];
+    for (i, w) in loops.iter().enumerate() {
+        s += w * density[nt * i];
     }
     s
 }
 
-// Goes on with a row of places: each loop value times the density rx further on in the row.
-fn row(
-    w: &[f64],
-    dens: &[f64],
-    first: usize,
-    at: usize,
-    nt: usize,
-    nx: usize,
-    rx: usize,
-    sum: f64,
-) -> f64
-    requires { CellRow w.now dens.now first at nt nx rx }
-    ensures { result ≡ wrapped_sum w.now dens.now first at nt nx rx sum }
+// Goes on with a row of loop values, each times the density rx further on in its row.
+#[tactic(auto, using(crate::proofs::RowInTwo::to_end, crate::proofs::RowInTwo::row_is))]
+fn row(loops: &[f64], density: &[f64], nt: usize, rx: usize, sum: f64) -> f64
+    requires { Reaches loops.now density.now nt × (rx < length loops.now) }
+    ensures { result ≡ wrapped_sum loops.now density.now nt rx sum }
 {
-    let to_end = nx - rx;
-    let there = at + nt * rx;
-    let s = run(w, dens, first, there, nt, to_end, sum);
-    run(w, dens, first + to_end, at, nt, rx, s)
+    let (front, back) = loops.split_at(loops.len() - rx);
+    let s = run(front, &density[nt * rx..], nt, sum);
+    run(back, density, nt, s)
 }
 
-// Goes on with a plane of places, row by row.
-fn plane(
-    w: &[f64],
-    dens: &[f64],
-    d: [usize; 4],
-    b: usize,
-    tm: usize,
-    c: [usize; 3],
-    z0: usize,
-    sum: f64,
-) -> f64
-    requires { CellPlane w.now dens.now d b tm c z0 }
-    ensures { result ≡ plane_sum d (product_at d (number w.now) (numbers_from dens.now b) tm c) z0 sum }
-{
-    let nt = d[0];
-    let nx = d[1];
-    let ny = d[2];
-    let rx = c[0];
-    let ry = c[1];
-    let z = wrap(z0 + c[2], d[3]);
-    let mut s = sum;
-    for y0 in 0..ny {
-        let y = wrap(y0 + ry, ny);
-        s = row(
-            w,
-            dens,
-            nx * (y0 + ny * z0),
-            b + tm + nt * (nx * (y + ny * z)),
-            nt,
-            nx,
-            rx,
-            s,
-        );
+impl TimeSlice<'_> {
+    // Goes on with a plane of places, row by row.
+    #[tactic(auto, unfolding(folds::specs::Folds::iter_to, crate::specs::Parts::plane_sum))]
+    fn plane(&self, c: [usize; 3], z0: usize, sum: f64) -> f64
+        requires { Within (space self.now.extents.d) c × (z0 < get_or self.now.extents.d 3 0) }
+        ensures { result ≡ plane_sum self.now.extents.d (product_at self.now.extents.d (number self.now.loops.now) (number self.now.density.now) self.now.time c) z0 sum }
+    {
+        let [nt, nx, ny, nz] = self.extents.d;
+        let z = wrap(z0 + c[2], nz);
+        let mut s = sum;
+        for y0 in 0..ny {
+            let y = wrap(y0 + c[1], ny);
+            let here = nx * (y0 + ny * z0);
+            let there = self.time + nt * (nx * (y + ny * z));
+            s = row(
+                &self.loops[here..here + nx],
+                &self.density[there..],
+                nt,
+                c[0],
+                s,
+            );
+        }
+        s
     }
-    s
-}
 
-// A cell's sum over a slice, plane by plane, from +0.
-fn cell(w: &[f64], dens: &[f64], d: [usize; 4], b: usize, tm: usize, c: [usize; 3]) -> f64
-    requires { Cell w.now dens.now d b tm c }
-    ensures { result ≡ slice_sum d (number w.now) (numbers_from dens.now b) tm c }
-{
-    let nz = d[3];
-    let mut s = 0.0;
-    for z0 in 0..nz {
-        s = plane(w, dens, d, b, tm, c, z0, s);
+    // A cell's sum over the slice, plane by plane, from +0.
+    #[tactic(auto, unfolding(folds::specs::Folds::iter_to))]
+    fn cell(&self, c: [usize; 3]) -> f64
+        requires { Within (space self.now.extents.d) c }
+        ensures { result ≡ slice_sum self.now.extents.d (number self.now.loops.now) (number self.now.density.now) self.now.time c }
+    {
+        let mut s = 0.0;
+        for z0 in 0..self.extents.d[3] {
+            s = self.plane(c, z0, s);
+        }
+        s
     }
-    s
 }
 
-// Adds each cell's sum over a slice to the second half of the scratch.
-pub fn slice_cells(scratch: &mut [f64], dens: &[f64], d: [usize; 4], count: usize, tm: usize)
-    requires { Scratch scratch.old dens.now d count tm }
-    ensures { scratch.new ≡ with_slice d dens.now count tm scratch.old }
+// Adds each cell's sum over a slice to the grid; the densities are read at one time.
+#[tactic(auto, using(crate::proofs::SliceAdded::cell_next), unfolding(folds::specs::Folds::fill))]
+pub fn slice_cells(grid: &mut [f64], loops: &[f64], densities: &Densities, time: usize)
+    requires grid { length grid.old ≡ densities.now.count * places densities.now.extents.d }
+    requires loops { length loops.now ≡ places densities.now.extents.d }
+    requires time { time < get_or densities.now.extents.d 0 0 }
+    ensures { grid.new ≡ with_slice densities.now.extents.d (number loops.now) densities.now.numbers.now time grid.old }
 {
-    let nx = d[1];
-    let ny = d[2];
-    let places = nx * (ny * d[3]);
-    let sites = d[0] * places;
-    let g = count * places;
-    for j in 0..g {
+    let extents = densities.extents;
+    let places = places(extents);
+    let nx = extents.d[1];
+    let ny = extents.d[2];
+    for (j, sum) in grid.iter_mut().enumerate() {
+        let slice = TimeSlice {
+            extents,
+            loops,
+            density: densities.density(j / places),
+            time,
+        };
         let r = j % places;
         let q = r / nx;
-        let sum = cell(
-            scratch,
-            dens,
-            d,
-            j / places * sites,
-            tm,
-            [r % nx, q % ny, q / ny],
-        );
-        scratch[g + j] = scratch[g + j] + sum;
+        *sum += slice.cell([r % nx, q % ny, q / ny]);
     }
 }

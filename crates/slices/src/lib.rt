@@ -1,12 +1,13 @@
-// Sums over slices of equal time, for any loop value at each site: a slice's loop values stand at the
-// front of a lent list, and the grid's numbers in its second half. What the functions ask for (a field's extents,
-// lists that fit) a caller has checked.
+// Sums over slices of equal time, for any loop value at each site.
 #![tactic(auto)]
 
 mod cells;
+mod densities;
 mod lists;
+mod time_slice;
 mod totals;
 
-pub use cells::slice_cells;
-pub use lists::{all_finite, clear, copy_from_second_half, copy_into_second_half, finite_from};
+pub use cells::{places, slice_cells};
+pub use densities::Densities;
+pub use lists::{all_finite, clear};
 pub use totals::{density_sums, total};

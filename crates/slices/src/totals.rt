@@ -1,34 +1,28 @@
-// Sums of numbers that stand in a row, from +0.
-ghost use Rattle.std.specs.Prelude.{◌≡◌, ◌+◌, ◌≤◌, length};
+// Sums of the numbers of a list, from +0.
+ghost use Rattle.std.specs.Prelude.{◌≡◌, ◌≤◌};
 ghost use Rattle.std.specs.Float.{binary64};
 ghost use Rattle.std.specs.Float.Ieee.{add};
-ghost use Rattle.folds.specs.Folds.{fold_to};
+ghost use Rattle.std.specs.List.{fold};
 ghost use Rattle.complex.specs.Rounded.{fzero};
-ghost use Rattle.slices.specs.Slices.{numbers_from, sums_of};
-ghost use Rattle.slices.specs.Parts.{Densities};
+ghost use Rattle.slices.specs.Slices.{sums_of};
 
-// The sum of n numbers of a list, from number `first` on.
-pub fn total(l: &[f64], first: usize, n: usize) -> f64
-    requires { first + n ≤ length l.now }
-    ensures { result ≡ fold_to (add binary64) fzero (numbers_from l.now first) n }
+use crate::Densities;
+
+pub fn total(l: &[f64]) -> f64
+    ensures { result ≡ fold (add binary64) fzero l.now }
 {
-    let mut s = 0.0;
-    for i in 0..n {
-        s += l[first + i];
-    }
-    s
+    l.iter().fold(0.0, |sum, x| sum + *x)
 }
 
 // The densities' sums over all sites, each added to the sum so far.
-pub fn density_sums(dens: &[f64], d: [usize; 4], count: usize, s: [f64; 4]) -> [f64; 4]
-    requires { Densities dens.now d count }
-    ensures { result ≡ sums_of d dens.now count s }
+#[tactic(auto, using(crate::proofs::SumsSoFar::density_total, crate::proofs::SumsSoFar::sums_next, crate::proofs::SumsSoFar::sums_are), unfolding(folds::specs::Folds::fill))]
+pub fn density_sums(densities: &Densities, s: [f64; 4]) -> [f64; 4]
+    requires { densities.now.count ≤ 4 }
+    ensures { result ≡ sums_of densities.now.extents.d densities.now.numbers.now densities.now.count s }
 {
-    let v = geometry::sites(d);
-    let mut r = s;
-    for k in 0..count {
-        let sum = total(dens, k * v, v);
-        r[k] = r[k] + sum;
+    let mut sums = s;
+    for k in 0..densities.count {
+        sums[k] += total(densities.density(k));
     }
-    r
+    sums
 }

@@ -1,5 +1,5 @@
 -- The best axis so far, axis by axis, is in the end the first of the nearest ones.
-use Rattle.std.proofs.Common.{ℕ, zero, suc, ◌+◌, ◌<◌, Bool, true, false, cond, List, [], ◌∷◌, ◌≡◌, refl, ap, sym, ◌∙◌, ℤ, Option, None, Some, MatchOption, arith, add-one, w32, SFits, of_z, true≢false, pos, length, ext_get_or}
+use Rattle.std.proofs.Common.{ℕ, zero, suc, ◌+◌, ◌<◌, Bool, true, false, cond, List, [], ◌∷◌, ◌≡◌, refl, ap, sym, ◌∙◌, ℤ, Option, None, Some, MatchOption, arith, add-one, w32, SFits, of_z, true≢false, pos, length, ext_get_or, IsSome, rules}
 use Rattle.std.proofs.lemmas.Int.{ints}
 use native.Mathlib.Decide.{ℕ_discrete}
 use mathlib.Core.List.{cons≢nil}
@@ -112,17 +112,20 @@ module _ (p d : List ℤ) where
   none_along : (n : ℕ) → best_below n ≡ None → (a : ℕ) → a < n → differs (along_of p a) (along_of d a) ≡ false
   unfolding best_below
   none_along zero e a l = absurd (omega arith)
-  none_along (suc n) e a l = go (differs (along_of p n) (along_of d n)) refl e
+  none_along (suc n) e a l = go (differs (along_of p n) (along_of d n)) refl (λ h. none_along n h a) e
     where
-      go : (b : Bool) → differs (along_of p n) (along_of d n) ≡ b → cond b (Some (better_of (best_below n) n (step_dist p d n))) (best_below n) ≡ None
+      go : (b : Bool) → differs (along_of p n) (along_of d n) ≡ b → (best_below n ≡ None → a < n → differs (along_of p a) (along_of d a) ≡ false)
+          → cond b (Some (better_of (best_below n) n (step_dist p d n))) (best_below n) ≡ None
           → differs (along_of p a) (along_of d a) ≡ false
-      go true f h = absurd cc
-      go false f h = elim (ℕ_discrete a n) [ yes same ↦ rw same f | no other ↦ none_along n h a (omega arith) ]
+      go true f less h = absurd cc
+      go false f less h = elim (ℕ_discrete a n) [ yes same ↦ rw same f | no other ↦ less h (omega arith) ]
 
-  pub none_found : length p ≡ 3 → length d ≡ 3 → {a : ℕ} → a ≡ 3 → None ≡ best_below a → p ≡ d
-  none_found three other e h =
+  -- so one is found where the place is not the offset
+  pub found : length p ≡ 3 → length d ≡ 3 → {a : ℕ} {o : Option (ℕ × Float)} → a ≡ 3 → o ≡ best_below a → (p ≡ d → ⊥) → IsSome o
+  found three other {o = None} e h left =
       let none = sym (h ∙ ap best_below e) in
-      ext_get_or (pos 0) p d (three ∙ sym other) (λ a l. equal_lem _ _ (none_along 3 none a (omega arith)))
+      absurd (left (ext_get_or (pos 0) p d (three ∙ sym other) (λ a l. equal_lem _ _ (none_along 3 none a (omega arith)))))
+  found three other {o = Some x} e h left = search rules
 
 -- ## it is one of them
 

@@ -1,24 +1,12 @@
--- When row 10 holds.
-use Rattle.std.proofs.Common.{◌≡◌, Bool, true, false, not, List, refl}
-use lib.Ieee.{Float}
+-- Row 10 for ratios.
+use Rattle.std.proofs.Common.{List, map, ◌≡◌, ◌∙◌}
+use Rattle.std.specs.List.{list_all}
+use Rattle.std.proofs.lemmas.List.Folds.{list_all-map}
+use lib.Ieee.{Float, nan}
 use lib.Ieee.Scale.{finite}
-use Rattle.rows.specs.Finite.{finite_numbers, bad_numbers}
-use Rattle.field_checks.specs.Situations.{bad_number}
-use Rattle.sums.specs.Ending.{bad_sums}
+use Rattle.folds.proofs.Lists.{all_listed}
+use Rattle.rows.specs.Finite.{finite_numbers}
 
-module _ (grid : List Float) (w : Float) (s : List Float) where
-  pub bad_cells : finite_numbers grid ≡ false → bad_sums grid w s ≡ true
-  unfolding bad_sums bad_numbers
-  bad_cells a = rw a
-
-  pub bad_densities : finite_numbers grid ≡ true → finite_numbers s ≡ false → bad_sums grid w s ≡ true
-  unfolding bad_sums bad_numbers
-  bad_densities a b = rw (a, b)
-
-  pub loops_left : finite_numbers grid ≡ true → finite_numbers s ≡ true → finite w ≡ not (bad_sums grid w s)
-  unfolding bad_sums bad_numbers bad_number
-  loops_left a b = rw (a, b) (twice (finite w))
-    where
-      twice : (x : Bool) → x ≡ not (not x)
-      twice true = refl
-      twice false = refl
+pub finite_mapped : (f : Float → Float) (l : List Float) → finite_numbers (map f l) ≡ list_all (λ x. finite (f x)) l
+unfolding finite_numbers
+finite_mapped f l = all_listed finite (map f l) nan ∙ list_all-map finite f l

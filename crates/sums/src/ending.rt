@@ -1,43 +1,40 @@
-ghost use Rattle.std.specs.Prelude.{◌≡◌, ◌+◌, ◌≤◌, min, not, length, drop};
-ghost use Rattle.sums.specs.Ending.{bad_sums, SumsStored};
+#![tactic(auto, unfolding(rows::specs::Refusals::first_refusal, rows::specs::Refusals::answered, rows::specs::Refusals::unless, rows::specs::Finite::bad_numbers, field_checks::specs::Situations::bad_number, crate::specs::Ending::bad_sums, crate::specs::Ending::sums_refusal))]
+
+ghost use Rattle.std.specs.Prelude.{◌≡◌, ◌+◌, min, length};
+ghost use Rattle.rows.specs.Refusals.{answered};
+ghost use Rattle.sums.specs.Ending.{sums_refusal, SumsStored};
+
+use rows::Refusal;
 
 // So many more samples, at most 2^64 − 1.
 pub fn more_samples(samples: u64, sites: usize) -> u64
     ensures { result ≡ min (samples + sites) 0xffff_ffff_ffff_ffff }
 {
-    let more = sites as u64;
-    if u64::MAX - samples < more {
-        return u64::MAX;
-    }
-    samples + more
+    samples.saturating_add(sites as u64)
 }
 
-// Whether all new sums are finite; the grid's stand in the scratch from number g on.
-fn finite_sums(scratch: &[f64], g: usize, w: f64, s: [f64; 4]) -> bool
-    requires { g ≤ length scratch.now }
-    ensures { result ≡ not (bad_sums (drop g scratch.now) w s) }
+// The test that all new sums are finite.
+fn finite_sums(grid: &[f64], w: f64, s: [f64; 4]) -> Result<(), Refusal>
+    ensures { result ≡ answered (sums_refusal grid.now w s) tt }
 {
-    if !slices::finite_from(scratch, g) {
-        return false;
+    if slices::all_finite(grid) && slices::all_finite(&s) && rows::is_finite(w) {
+        Ok(())
+    } else {
+        Err(Refusal::NotFinite)
     }
-    if !slices::all_finite(&s) {
-        return false;
-    }
-    rows::is_finite(w)
 }
 
-// Stores a grid that stands in the second half of the scratch, where it, w and s are finite; 0, or row 10. The
-// scratch is cleared.
-pub fn store(grid: &mut [f64], scratch: &mut [f64], w: f64, s: [f64; 4]) -> u32
+// Stores a grid that stands in the second half of the scratch, where it, w and s are finite. The scratch is
+// cleared.
+pub fn store(grid: &mut [f64], scratch: &mut [f64], w: f64, s: [f64; 4]) -> Result<(), Refusal>
     requires { length scratch.old ≡ length grid.old + length grid.old }
     ensures { SumsStored w s grid.old scratch.old result grid.new scratch.new }
 {
     let g = grid.len();
-    if !finite_sums(scratch, g, w, s) {
-        slices::clear(scratch);
-        return 10;
+    let finite = finite_sums(&scratch[g..], w, s);
+    if finite.is_ok() {
+        grid.copy_from_slice(&scratch[g..]);
     }
-    slices::copy_from_second_half(grid, scratch);
     slices::clear(scratch);
-    0
+    finite
 }

@@ -1,10 +1,9 @@
-use Prim.Native.Nat.{◌-◌, ◌≤◌}
-use mathlib.Core.Path.{◌≡◌}
-use Rattle.slices.specs.Parts.{run_sum}
+use Rattle.std.proofs.Common.{◌≡◌, ◌*◌}
+use lib.Ieee.{binary64, add}
+use Rattle.folds.specs.Folds.{fold_to}
+use Rattle.complex.specs.Rounded.{◌⊠◌}
+use Rattle.slices.specs.Slices.{number}
 use Rattle.slices.proofs.cells.run.Given as goal
 
 abbrev pub invariant-loop-i : goal.invariant-loop-i
-invariant-loop-i l = (l.i ≤ l.n) × (l.s ≡ run_sum l.w l.dens l.first l.at l.nt l.i l.sum)
-
-abbrev pub decreases-loop-i : goal.decreases-loop-i
-decreases-loop-i l = l.n - l.i
+invariant-loop-i l = l.s ≡ fold_to (add binary64) l.sum (λ k. number l.loops k ⊠ number l.density (l.nt * k)) l.i

@@ -1,7 +1,7 @@
-use Rattle.std.proofs.Common.{rules, arith, ap, ◌∙◌}
+use Rattle.std.proofs.Common.{rules, arith, ap, sym, ◌∙◌}
 use Rattle.stairs.specs.Line.{line_dist}
 use Rattle.stairs.proofs.Whole.{moved}
-use Rattle.stairs.proofs.Best.{best_found, best_low, left_better, left_kept, none_more, differs_lem, same_lem}
+use Rattle.stairs.proofs.Best.{found, best_found, best_low, left_better, left_kept, none_more, differs_lem, same_lem}
 use Rattle.stairs.proofs.line.Line.best_axis.Goals as goal
 use Rattle.stairs.proofs.line.Line.best_axis.Goals.{then-p-a+then-is_none_or, then-p-a+else-is_none_or, else-p-a}
 
@@ -21,7 +21,9 @@ loop-a-preserved c =
     ]
 
 pub unwrap-requires : goal.unwrap-requires
-unwrap-requires c = ?
+unwrap-requires c = found c.args.p c.args.self.d (search rules) (search rules) (omega arith) c.loop-a.invariant c.requires.left
 
 pub returns : goal.returns
-returns c = ?
+returns c =
+    let axis = best_found c.args.p c.args.self.d {a = c.loop-a.a} (omega arith) (sym c.unwrap.ensures ∙ c.loop-a.invariant) in
+    record { axis = axis; in_space = rw axis (best_low c.args.p c.args.self.d) }
