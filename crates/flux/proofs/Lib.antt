@@ -1,2 +1,3 @@
 pub mod Grids
+pub mod Correlation
 pub mod Claims
