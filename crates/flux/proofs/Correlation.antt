@@ -1,5 +1,5 @@
 -- A density's cells, part of the grid's list, make its correlation.
-use Rattle.std.proofs.Common.{Result, None, refl, ℕ, ◌+◌, ◌*◌, ◌≤◌, List, map, length, ◌≡◌, ◌∙◌, sym, ap, ext_get_or, arith, take, drop, ◌-◌, ◌<◌, length-take-le}
+use Rattle.std.proofs.Common.{Result, None, refl, ℕ, ◌+◌, ◌*◌, ◌≤◌, List, map, length, ◌≡◌, ◌∙◌, sym, ap, ext_get_or, arith, take, drop, ◌<◌, length-take-le}
 use Rattle.std.proofs.Math.Nat.{add-sub_cancel_left}
 use Rattle.std.proofs.lemmas.List.{length-map, get_or-map, get_or-drop, get_or-take, length-drop}
 use Rattle.std.specs.List.{slice_range}

@@ -1,4 +1,4 @@
-use Rattle.std.proofs.Common.{rules, arith, refl, mul-le-mul, suc, suc-mul, ◌≡◌, ◌≤◌, ◌+◌, ◌*◌, length, ap, sym, ◌∙◌}
+use Rattle.std.proofs.Common.{rules, arith, refl, mul-le-mul, suc, suc-mul, ◌≡◌, ◌≤◌, ◌+◌, ◌*◌, length, ap, ◌∙◌}
 use Rattle.rows.specs.Refusals.{first_refusal, refusal_in, answered, finally, unless}
 use Rattle.rows.specs.Finite.{bad_numbers}
 use Rattle.geometry.specs.Radix.{volume}
