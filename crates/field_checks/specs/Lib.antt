@@ -1,4 +1,3 @@
--- `Situations` has the rows' tests and `Rows` each call's rows.
+-- `Situations` has the rows' tests and `Refusals` each call's rows.
 pub mod Situations
-pub mod Rows
 pub mod Refusals

@@ -1,5 +1,5 @@
 // What a call is handed, judged: each check is a row of the table.
-#![tactic(auto, unfolding(rows::specs::Refusals::first_refusal, rows::specs::Refusals::refusal_in, crate::specs::Situations::bad_extents, crate::specs::Situations::bad_links, crate::specs::Situations::bad_site, crate::specs::Situations::bad_direction, crate::specs::Situations::bad_plane, crate::specs::Situations::bad_coords, crate::specs::Situations::bad_room, crate::specs::Situations::bad_number, crate::specs::Situations::bad_pair, crate::specs::Situations::bad_matrix, rows::specs::Refusals::answered))]
+#![tactic(auto, unfolding(rows::specs::Refusals::first_refusal, rows::specs::Refusals::refusal_in, crate::specs::Situations::bad_extents, crate::specs::Situations::bad_coupling, crate::specs::Situations::bad_links, crate::specs::Situations::bad_site, crate::specs::Situations::bad_direction, crate::specs::Situations::bad_plane, crate::specs::Situations::bad_coords, folds::specs::Folds::all_below, crate::specs::Situations::bad_room, crate::specs::Situations::bad_number, crate::specs::Situations::bad_pair, crate::specs::Situations::bad_matrix, rows::specs::Refusals::answered))]
 
 ghost use Rattle.std.specs.Prelude.{◌≡◌, ◌*◌, ◌<◌, ◌≤◌, [], ◌∷◌, length};
 ghost use Rattle.rows.specs.Refusals.{Checked, first_refusal, answered};
@@ -22,7 +22,7 @@ pub fn extents(d: [usize; 4]) -> Result<Extents, Refusal>
 pub fn coupling(c: f64) -> Result<(), Refusal>
     ensures { Checked ((bad_coupling c, Refusal.Coupling) ∷ []) (λ _. Unit {0}) result }
 {
-    if crate::bad_coupling(c) {
+    if !rows::is_finite(c) || c < 0.0 || c > 100.0 {
         return Err(Refusal::Coupling);
     }
     Ok(())
@@ -71,10 +71,13 @@ pub fn plane(mu: usize, nu: usize) -> Result<(), Refusal>
 pub fn coords(extents: Extents, at: [usize; 4]) -> Result<(), Refusal>
     ensures { Checked ((bad_coords extents.d at, Refusal.Site) ∷ []) (λ _. Within extents.d at) result }
 {
-    if crate::bad_coords(extents.d, at) {
-        return Err(Refusal::Site);
+    let [nt, nx, ny, nz] = extents.d;
+    let [t, x, y, z] = at;
+    if t < nt && x < nx && y < ny && z < nz {
+        Ok(())
+    } else {
+        Err(Refusal::Site)
     }
-    Ok(())
 }
 
 // Room for the numbers of all links.
