@@ -1,6 +1,7 @@
 ghost use Rattle.std.specs.Prelude.{◌≡◌, ◌<◌};
 ghost use Rattle.complex.specs.Rounded.{◌⊞◌};
 ghost use Rattle.mat.specs.Matrix.{re_tr};
+ghost use Rattle.mat.specs.Product.{mul_of};
 ghost use Rattle.geometry.specs.Radix.{volume};
 ghost use Rattle.geometry.specs.Steps.{neighbours_of};
 ghost use Rattle.links.specs.Field.{field_of};
@@ -13,8 +14,16 @@ use links::Lent;
 use mat::Su3;
 use products::row_col;
 
+// a·b. A function by itself, so that both products of a plaquette share its code: with the code twice, a
+// plaquette takes a tenth longer.
+#[tactic(auto, using(mat::proofs::Tables::product_is))]
+fn product(a: Lent, b: Lent) -> Su3
+    ensures { result ≡ mul_of (lent_of a.entry) (lent_of b.entry) }
+{
+    Su3::product(a, b)
+}
+
 // The plaquette in the plane of mu and nu: f is n + mu, g is n + nu.
-#[tactic(auto, using(mat::proofs::Tables::products))]
 pub fn plaquette_at(
     links: &[f64],
     v: usize,
@@ -27,8 +36,8 @@ pub fn plaquette_at(
     requires { Corners links.now v mu nu n f g }
     ensures { result ≡ plaquette_at (field_of v links.now) mu nu n f g }
 {
-    let a = Su3::product(links::lend(links, v, mu, n), links::lend(links, v, nu, f));
-    let b = Su3::product(links::lend(links, v, nu, n), links::lend(links, v, mu, g));
+    let a = product(links::lend(links, v, mu, n), links::lend(links, v, nu, f));
+    let b = product(links::lend(links, v, nu, n), links::lend(links, v, mu, g));
     a.mul_dag(b)
 }
 

@@ -16,7 +16,7 @@ fn loop_trace(links: &[f64], d: [usize; 4], v: usize, k: usize) -> C64
     let first = d[0] * k;
     let mut p = Su3::IDENTITY;
     for t in 0..last {
-        p = Su3::product(&p, links::lend(links, v, 0, first + t));
+        p = p * links::link(links, v, 0, first + t);
     }
     Su3::trace_of_product(&p, links::lend(links, v, 0, first + last))
 }

@@ -43,20 +43,20 @@ loop-t-init c = (omega arith, line_none _ _)
 pub overflow_add-first : goal.overflow_add-first
 overflow_add-first c = let q = c.requires in omega (arith, below q c.loop-t.t (omega (arith, c.loop-t-test.true)), few q)
 
-pub lend-requires : goal.lend-requires
-lend-requires c = let q = c.requires in stored q _ (omega (arith, c.loop-t-test.true))
+pub link-requires : goal.link-requires
+link-requires c = let q = c.requires in stored q _ (omega (arith, c.loop-t-test.true))
 
 pub overflow_step-t : goal.overflow_step-t
 overflow_step-t c = let q = c.requires in omega (arith, below q c.loop-t.t (omega (arith, c.loop-t-test.true)), few q)
 
 pub loop-t-preserved : goal.loop-t-preserved
-loop-t-preserved c = (omega arith, line_next _ _ _ c.loop-t.invariant.1 (rw c.lend.ensures at (c.product-p.ensures ∙ product_is _ _)))
+loop-t-preserved c = (omega arith, line_next _ _ _ c.loop-t.invariant.1 (rw c.link.ensures at c.mul-p.ensures))
 
 pub overflow_add-first-2 : goal.overflow_add-first-2
 overflow_add-first-2 c = let q = c.requires in omega (arith, below q _ (last q), few q)
 
-pub lend-requires-2 : goal.lend-requires-2
-lend-requires-2 c = let q = c.requires in stored q _ (last q)
+pub lend-requires : goal.lend-requires
+lend-requires c = let q = c.requires in stored q _ (last q)
 
 pub returns : goal.returns
 unfolding polyakov_trace
@@ -67,4 +67,4 @@ returns c =
     let e : t ≡ get_or args.d 0 0 - 1 = omega arith in
     let all : t + 1 ≡ get_or args.d 0 0 = omega (arith, some q) in
     let line = line_next (field_of args.v args.links.now) _ t c.loop-t.invariant.1 refl in
-    rw (c.trace_of_product.ensures, c.lend-2.ensures, product_is, ← e, line, q.1, line_by_lem _ (axis_in _ q.0.shape 0 (omega arith)) _ q.2 _ _ all)
+    rw (c.trace_of_product.ensures, c.lend.ensures, product_is, ← e, line, q.1, line_by_lem _ (axis_in _ q.0.shape 0 (omega arith)) _ q.2 _ _ all)
