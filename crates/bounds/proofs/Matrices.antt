@@ -13,7 +13,7 @@ use Rattle.complex.specs.Complex.{czero, cnan, conj_of, cscale, cadd, csub, cmul
 use Rattle.mat.specs.Matrix.{at, ent, tabulate, each, dagger_of, scale_of, add_of, sub_of, trace_of, re_tr}
 use Rattle.mat.specs.Product.{sum3, row_col, row_row, col_col, mul_of, mul_dag_of, dag_mul_of}
 use Rattle.mat.specs.Traceless.{anti_of, sub_diag, traceless_of}
-use Rattle.mat.proofs.Entries.{table_at}
+use Rattle.mat.proofs.Tables.{table_at}
 use Rattle.bounds.specs.Magnitude.{Magnitude}
 use Rattle.bounds.proofs.Numbers.{magnitude_mono, magnitude_neg, magnitude_mul, magnitude_add, magnitude_sub, sum_grows, magnitude_zero, magnitude_half, magnitude_third}
 

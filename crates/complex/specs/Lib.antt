@@ -1,4 +1,5 @@
--- `Rounded` has the operations on f64, `Complex` and `Row` what is made of them by formulas.
+-- `Rounded` has the operations on f64, `Complex` and `Row` what is made of them by formulas, `Constants` what the constants are.
 pub mod Rounded
 pub mod Complex
 pub mod Row
+pub mod Constants

@@ -3,18 +3,19 @@
 #![tactic(auto)]
 
 mod number;
+mod operators;
 mod row_vector;
 
 pub use number::minor;
 
-#[derive(Clone, Copy)]
+#[derive(Clone, Copy, Debug, Default, PartialEq)]
 pub struct C64 {
     pub re: f64,
     pub im: f64,
 }
 
 // A row of a 3×3 matrix.
-#[derive(Clone, Copy)]
+#[derive(Clone, Copy, Debug, PartialEq)]
 pub struct Row {
     pub c0: C64,
     pub c1: C64,

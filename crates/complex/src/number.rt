@@ -1,16 +1,7 @@
 ghost use Rattle.std.specs.Prelude.{◌≡◌};
-ghost use Rattle.complex.specs.Complex.{complex_of, conj_of, norm_sqr, cscale, cadd, csub, cmul, cneg, minor, combination, finite_entry};
-ghost use Rattle.complex.specs.Rounded.{fzero, fone};
+ghost use Rattle.complex.specs.Complex.{complex_of, conj_of, norm_sqr, cscale, minor, combination, finite_entry};
 
 use crate::C64;
-
-// The constants of `C64`.
-#[derive(Clone, Copy)]
-struct Units {
-    zero: C64,
-    one: C64,
-    i: C64,
-}
 
 impl C64 {
     pub const ZERO: Self = Self { re: 0.0, im: 0.0 };
@@ -25,6 +16,7 @@ impl C64 {
         Self { re, im }
     }
 
+    #[tactic(auto, unfolding(crate::specs::Complex::conj_of))]
     pub fn conj(self) -> Self
         ensures { result ≡ conj_of self }
     {
@@ -34,12 +26,14 @@ impl C64 {
         }
     }
 
+    #[tactic(auto, unfolding(crate::specs::Complex::norm_sqr))]
     pub fn norm_sqr(self) -> f64
         ensures { result ≡ norm_sqr self }
     {
         self.re * self.re + self.im * self.im
     }
 
+    #[tactic(auto, unfolding(crate::specs::Complex::cscale))]
     pub fn scale(self, s: f64) -> Self
         ensures { result ≡ cscale self s }
     {
@@ -49,75 +43,27 @@ impl C64 {
         }
     }
 
-    pub fn add(self, o: C64) -> Self
-        ensures { result ≡ cadd self o }
-    {
-        Self {
-            re: self.re + o.re,
-            im: self.im + o.im,
-        }
-    }
-
-    pub fn sub(self, o: C64) -> Self
-        ensures { result ≡ csub self o }
-    {
-        Self {
-            re: self.re - o.re,
-            im: self.im - o.im,
-        }
-    }
-
-    pub fn mul(self, o: C64) -> Self
-        ensures { result ≡ cmul self o }
-    {
-        Self {
-            re: self.re * o.re - self.im * o.im,
-            im: self.re * o.im + self.im * o.re,
-        }
-    }
-
-    pub fn neg(self) -> Self
-        ensures { result ≡ cneg self }
-    {
-        Self {
-            re: -self.re,
-            im: -self.im,
-        }
-    }
-
     // x·a + y·b
+    #[tactic(auto, unfolding(crate::specs::Complex::combination))]
     pub fn combine(x: C64, a: C64, y: C64, b: C64) -> Self
         ensures { result ≡ combination x a y b }
     {
-        x.mul(a).add(y.mul(b))
+        x * a + y * b
     }
 
     // Neither part is an infinity or a NaN.
+    #[tactic(auto, unfolding(crate::specs::Complex::finite_entry))]
     pub fn is_finite(self) -> bool
         ensures { result ≡ finite_entry self }
     {
-        if rows::is_finite(self.re) {
-            rows::is_finite(self.im)
-        } else {
-            false
-        }
+        rows::is_finite(self.re) && rows::is_finite(self.im)
     }
 }
 
 // a·b − c·d
+#[tactic(auto, unfolding(crate::specs::Complex::minor))]
 pub fn minor(a: C64, b: C64, c: C64, d: C64) -> C64
     ensures { result ≡ minor a b c d }
 {
-    a.mul(b).sub(c.mul(d))
-}
-
-// Not called: it says of the constants what they are.
-fn constants() -> Units
-    ensures { result ≡ record { zero = complex_of fzero fzero; one = complex_of fone fzero; i = complex_of fzero fone } }
-{
-    Units {
-        zero: C64::ZERO,
-        one: C64::ONE,
-        i: C64::I,
-    }
+    a * b - c * d
 }

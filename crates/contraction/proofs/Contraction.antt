@@ -13,12 +13,12 @@ pub epsilon_sixes : (a b c : Su3)
     (six_of
     (six_of
     (six_of
-    (six_of czero (rows_of a).r0 (rows_of b).r1 (rows_of c).r2 fone)
-    (rows_of a).r1 (rows_of b).r2 (rows_of c).r0 fone)
-    (rows_of a).r2 (rows_of b).r0 (rows_of c).r1 fone)
-    (rows_of a).r0 (rows_of b).r2 (rows_of c).r1 (neg fone))
-    (rows_of a).r2 (rows_of b).r1 (rows_of c).r0 (neg fone))
-    (rows_of a).r1 (rows_of b).r0 (rows_of c).r2 (neg fone)
+    (six_of czero (row_of a 0) (row_of b 1) (row_of c 2) fone)
+    (row_of a 1) (row_of b 2) (row_of c 0) fone)
+    (row_of a 2) (row_of b 0) (row_of c 1) fone)
+    (row_of a 0) (row_of b 2) (row_of c 1) (neg fone))
+    (row_of a 2) (row_of b 1) (row_of c 0) (neg fone))
+    (row_of a 1) (row_of b 0) (row_of c 2) (neg fone)
     ≡ epsilon_of a b c
 unfolding six_of epsilon_of row_of rows_of
 epsilon_sixes a b c = refl

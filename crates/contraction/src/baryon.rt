@@ -21,7 +21,7 @@ fn quark_line(junction: Walker<'_>, top: Walker<'_>, steps: &Stairs, t_len: usiz
     let line = below.time_line(t_len);
     let mut above = top;
     let upper = above.path(steps);
-    lower.mul(line).mul_dag(upper)
+    (lower * line).mul_dag(upper)
 }
 
 // The loop of three quarks: Re ε ε M M M / 6.

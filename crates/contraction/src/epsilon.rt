@@ -8,32 +8,33 @@ use mat::Su3;
 fn term(a: C64, b: C64, c: C64, sign: f64) -> C64
     ensures { result ≡ cscale (cmul (cmul a b) c) sign }
 {
-    a.mul(b).mul(c).scale(sign)
+    (a * b * c).scale(sign)
 }
 
 // A sum, and then the six terms of three rows whose order has the sign p.
 fn add_six(sum: C64, a: Row, b: Row, c: Row, p: f64) -> C64
     ensures { result ≡ six_of sum a b c p }
 {
-    sum.add(term(a.c0, b.c1, c.c2, p * 1.0))
-        .add(term(a.c1, b.c2, c.c0, p * 1.0))
-        .add(term(a.c2, b.c0, c.c1, p * 1.0))
-        .add(term(a.c0, b.c2, c.c1, p * -1.0))
-        .add(term(a.c2, b.c1, c.c0, p * -1.0))
-        .add(term(a.c1, b.c0, c.c2, p * -1.0))
+    sum + term(a.c0, b.c1, c.c2, p * 1.0)
+        + term(a.c1, b.c2, c.c0, p * 1.0)
+        + term(a.c2, b.c0, c.c1, p * 1.0)
+        + term(a.c0, b.c2, c.c1, p * -1.0)
+        + term(a.c2, b.c1, c.c0, p * -1.0)
+        + term(a.c1, b.c0, c.c2, p * -1.0)
 }
 
 // ε_abc ε_a'b'c' A_aa' B_bb' C_cc'.
+#[tactic(auto, using(crate::proofs::Contraction::epsilon_sixes), unfolding(mat::specs::Unitary::rows_of))]
 pub fn epsilon_contract(a: Su3, b: Su3, c: Su3) -> C64
     ensures { result ≡ epsilon_of a b c }
 {
     let x = a.rows();
     let y = b.rows();
     let z = c.rows();
-    let s = add_six(C64::ZERO, x.r0, y.r1, z.r2, 1.0);
-    let s = add_six(s, x.r1, y.r2, z.r0, 1.0);
-    let s = add_six(s, x.r2, y.r0, z.r1, 1.0);
-    let s = add_six(s, x.r0, y.r2, z.r1, -1.0);
-    let s = add_six(s, x.r2, y.r1, z.r0, -1.0);
-    add_six(s, x.r1, y.r0, z.r2, -1.0)
+    let s = add_six(C64::ZERO, x[0], y[1], z[2], 1.0);
+    let s = add_six(s, x[1], y[2], z[0], 1.0);
+    let s = add_six(s, x[2], y[0], z[1], 1.0);
+    let s = add_six(s, x[0], y[2], z[1], -1.0);
+    let s = add_six(s, x[2], y[1], z[0], -1.0);
+    add_six(s, x[1], y[0], z[2], -1.0)
 }

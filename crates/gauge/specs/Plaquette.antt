@@ -9,7 +9,6 @@ use Rattle.mat.specs.Matrix.{re_tr}
 use Rattle.mat.specs.Product.{row_row, mul_of, mul_dag_of}
 use Rattle.geometry.specs.Radix.{volume}
 use Rattle.geometry.specs.Steps.{fwd_of}
-use Rattle.links.specs.Store.{matrix_at}
 use Rattle.links.specs.Field.{Field, Sized}
 
 -- U_μ(n) U_ν(f) (U_ν(n) U_μ(g))†, where f is n+μ and g is n+ν
@@ -19,9 +18,9 @@ plaquette_at U mu nu n f g = mul_dag_of (mul_of (U mu n) (U nu f)) (mul_of (U nu
 unfoldable pub plaquette_of : List ℕ → Field → ℕ → ℕ → ℕ → Su3
 plaquette_of d U n mu nu = plaquette_at U mu nu n (fwd_of d n mu) (fwd_of d n nu)
 
--- the real part of the i-th entry on the diagonal of a·b·(c·e)†, for matrices at four places of a list
-abbrev pub diagonal_at : List Float → ℕ → ℕ → ℕ → ℕ → ℕ → Float
-diagonal_at l a b c e i = (row_row (mul_of (matrix_at l a) (matrix_at l b)) (mul_of (matrix_at l c) (matrix_at l e)) i i).re
+-- the real part of the i-th entry on the diagonal of a·b·(c·e)†
+abbrev pub diagonal_at : Su3 → Su3 → Su3 → Su3 → ℕ → Float
+diagonal_at a b c e i = (row_row (mul_of a b) (mul_of c e) i i).re
 
 -- n, f and g are sites, μ and ν directions, of a list that holds a field
 pub record Corners (l : List Float) (v mu nu n f g : ℕ) : Type 0 where

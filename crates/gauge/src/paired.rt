@@ -70,7 +70,7 @@ pub fn add_matrix(s: Paired, u: Su3) -> Paired
         c1: add_pair(s.c1, m[1], m[4]),
         c2: add_pair(s.c2, m[2], m[5]),
         low: add_pair(s.low, m[6], m[7]),
-        last: s.last.add(m[8]),
+        last: s.last + m[8],
     }
 }
 

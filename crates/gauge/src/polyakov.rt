@@ -16,9 +16,9 @@ fn loop_trace(links: &[f64], d: [usize; 4], v: usize, k: usize) -> C64
     let first = d[0] * k;
     let mut p = Su3::IDENTITY;
     for t in 0..last {
-        p = p.mul(links::link(links, v, 0, first + t));
+        p = p * links::link(links, v, 0, first + t);
     }
-    products::trace_mul_by(p, links, links::place(v, 0, first + last))
+    Su3::trace_of_product(&p, links::lend(links, v, 0, first + last))
 }
 
 // ⟨Tr Π U_0⟩ / 3 over all places of space.
@@ -30,7 +30,7 @@ pub fn polyakov_loop(links: &[f64], d: [usize; 4]) -> C64
     let places = d[1] * (d[2] * d[3]);
     let mut s = C64::ZERO;
     for k in 0..places {
-        s = s.add(loop_trace(links, d, v, k));
+        s += loop_trace(links, d, v, k);
     }
     s.scale(1.0 / (3.0 * (places as u32) as f64))
 }

@@ -7,9 +7,11 @@ ghost use Rattle.gauge.specs.Paired.{matrix_of};
 
 use crate::paired::{Paired, add_matrix, matrix, zero_sum};
 use mat::Su3;
+use products::Adjoint;
 
 // a, and then the two staples in the plane of mu and nu. The sites: n, f = n + mu, u = n + nu,
 // b = n - nu, s = n + mu - nu.
+#[tactic(auto, using(mat::proofs::Tables::products))]
 fn add_staples(
     links: &[f64],
     v: usize,
@@ -25,15 +27,19 @@ fn add_staples(
     requires { StapleSites links.now v mu nu n f u b s }
     ensures { matrix_of result ≡ add_of (add_of (matrix_of a) (upper_at (field_of v links.now) mu nu n f u)) (lower_at (field_of v links.now) mu nu b s) }
 {
-    let upper = products::mul_dag_by(
-        products::mul_dag_at(links, links::place(v, nu, f), links::place(v, mu, u)),
-        links,
-        links::place(v, nu, n),
+    let upper = Su3::product(
+        &Su3::product(
+            links::lend(links, v, nu, f),
+            Adjoint(links::lend(links, v, mu, u)),
+        ),
+        Adjoint(links::lend(links, v, nu, n)),
     );
-    let lower = products::mul_by(
-        products::dag_mul_dag_at(links, links::place(v, nu, s), links::place(v, mu, b)),
-        links,
-        links::place(v, nu, b),
+    let lower = Su3::product(
+        &Su3::product(
+            Adjoint(links::lend(links, v, nu, s)),
+            Adjoint(links::lend(links, v, mu, b)),
+        ),
+        links::lend(links, v, nu, b),
     );
     add_matrix(add_matrix(a, upper), lower)
 }

@@ -21,8 +21,3 @@ matrix_at l p = each (λ k. cell_at l (p + 2 * k))
 -- the list with another matrix there
 unfoldable pub with_matrix : List Float → ℕ → Su3 → List Float
 with_matrix l p u = iter_to (λ k m. put_cell m (p + 2 * k) (ent u k)) l 9
-
--- two places have room for a matrix each
-pub record TwoMatrices (l : List Float) (a b : ℕ) : Type 0 where
-  pub first : a + 18 ≤ length l
-  pub second : b + 18 ≤ length l

@@ -3,11 +3,30 @@
 #![tactic(auto)]
 
 ghost use Rattle.std.specs.Prelude.{◌≡◌, ◌+◌, ◌<◌, ◌≤◌, length};
+ghost use Rattle.mat.specs.Matrix.{at};
 ghost use Rattle.links.specs.Store.{cell_at, put_cell, matrix_at, with_matrix};
 ghost use Rattle.links.specs.Field.{place_of, field_of, Stored};
 
 use complex::C64;
 use mat::Su3;
+use products::Entries;
+
+// The matrix at a place of a list, by its entries where they stand: a matrix that is loaded is copied.
+#[derive(Clone, Copy)]
+pub struct Lent<'a> {
+    pub links: &'a [f64],
+    pub place: usize,
+    ghost room: { place + 18 ≤ length links.now },
+}
+
+impl<'a> Entries for Lent<'a> {
+    ghost entries = { λ u. at (matrix_at u.links.now u.place) };
+
+    #[tactic(auto, using(crate::proofs::Laws::entry_at))]
+    fn entry(self, i: usize, j: usize) -> C64 {
+        cell(self.links, self.place + 2 * (3 * i + j))
+    }
+}
 
 // The complex number at a place.
 pub fn cell(links: &[f64], p: usize) -> C64
@@ -66,4 +85,15 @@ pub fn link(links: &[f64], v: usize, mu: usize, n: usize) -> Su3
     ensures { result ≡ field_of v links.now mu n }
 {
     load(links, place(v, mu, n))
+}
+
+// The same link where it stands.
+pub fn lend(links: &[f64], v: usize, mu: usize, n: usize) -> Lent
+    requires { Stored links.now v mu n }
+    ensures { matrix_at result.links.now result.place ≡ field_of v links.now mu n }
+{
+    Lent {
+        links,
+        place: place(v, mu, n),
+    }
 }

@@ -1,17 +1,13 @@
--- What the loops over a matrix leave, turn by turn, and answers.
-use Prim.Native.Nat.{ℕ, suc, ◌+◌, ◌*◌, ◌/◌, ◌%◌, ◌<◌}
-use mathlib.Core.List.{List}
-use mathlib.Core.Path.{◌≡◌, ◌∙◌, refl}
-use native.Mathlib.Numerals.{add-one}
-use native.Mathlib.Omega.{arith}
-use lib.ListN.{set}
-use Rattle.folds.specs.Folds.{fill}
-use Rattle.folds.proofs.Laws.{fill_next}
+-- What the loops over a matrix leave, and answers.
+use Rattle.std.proofs.Common.{◌≡◌, ◌∙◌, refl, sym, ap, ℕ, zero, suc, ◌+◌, Bool, ◌&&◌, List, [], ◌∷◌, length, get_or, add-one}
+use Rattle.std.proofs.Math.Bool.{and_assoc, and-true}
+use Rattle.std.specs.List.{list_all}
+use Rattle.folds.specs.Folds.{fill, all_below}
 use Rattle.rows.specs.Rows.{if_accepted}
 use Rattle.complex.specs.declared.C64.{C64}
 use Rattle.complex.specs.Rounded.{inverse, as_float}
 use Rattle.mat.specs.declared.Su3.{Su3}
-use Rattle.mat.specs.Matrix.{tabulate, each, zeros, zero_of, identity_of, scale_of, add_of}
+use Rattle.mat.specs.Matrix.{each, zeros, zero_of, identity_of, scale_of, add_of}
 use Rattle.mat.specs.Product.{mul_of}
 use Rattle.mat.specs.Exponential.{term_of, series_of}
 use Rattle.mat.specs.Answers.{matrix_answer}
@@ -21,45 +17,35 @@ pub fill_each : (f : ℕ → C64) {p : List C64} (n : ℕ) → n ≡ 9 → p ≡
 unfolding fill
 fill_each f n h e = rw (e, h)
 
--- f i j at the place 3 i + j
-unfoldable pub by_row : (ℕ → ℕ → C64) → ℕ → C64
-by_row f k = f (k / 3) (k % 3)
-
-by_row_lem : (f : ℕ → ℕ → C64) (i j : ℕ) → j < 3 → f i j ≡ by_row f (3 * i + j)
-unfolding by_row
-by_row_lem f i j h =
-    let p : i ≡ (3 * i + j) / 3 = omega arith in
-    let q : j ≡ (3 * i + j) % 3 = omega arith in
-    cc
-
-pub fill_row : (f : ℕ → ℕ → C64) (l : List C64) (i j : ℕ) {p : List C64} {z : C64} → j < 3 → p ≡ fill (by_row f) l (3 * i + j) → z ≡ f i j → set p (3 * i + j) z ≡ fill (by_row f) l (3 * i + (j + 1))
-fill_row f l i j h a b =
-    let k : 3 * i + (j + 1) ≡ 3 * i + j + 1 = omega arith in
-    rw k (fill_next (by_row f) l (3 * i + j) a (b ∙ by_row_lem f i j h))
-
-pub fill_table : (f : ℕ → ℕ → C64) {p : List C64} (n : ℕ) → n ≡ 3 → p ≡ fill (by_row f) zeros (3 * n) → record { m = p } ≡ tabulate f
-unfolding fill by_row
-fill_table f n h e = rw (e, h)
-
 -- ## the exponential's series
-pub term_none : (q : Su3) → identity_of ≡ term_of q 0
+pub term_none : (q : Su3) → term_of q 0 ≡ identity_of
 unfolding term_of
 term_none q = refl
 
-pub term_next : (q : Su3) (n : ℕ) {t m p : Su3} → t ≡ term_of q n → m ≡ mul_of t q → p ≡ scale_of m (inverse (as_float (n + 1))) → p ≡ term_of q (n + 1)
+pub term_next : (q : Su3) (n : ℕ) → term_of q (n + 1) ≡ scale_of (mul_of (term_of q n) q) (inverse (as_float (n + 1)))
 unfolding term_of
-term_next q n a b d = rw (d, b, a, add-one)
+term_next q n = rw add-one
 
-pub series_none : (q : Su3) → identity_of ≡ series_of q 0
+pub series_none : (q : Su3) → series_of q 0 ≡ identity_of
 unfolding series_of
 series_none q = refl
 
-pub series_next : (q : Su3) (n : ℕ) {s t r : Su3} → s ≡ series_of q n → t ≡ term_of q (n + 1) → r ≡ add_of s t → r ≡ series_of q (n + 1)
+pub series_next : (q : Su3) (n : ℕ) → series_of q (n + 1) ≡ add_of (series_of q n) (term_of q (n + 1))
 unfolding series_of
-series_next q n a b d = rw (d, b, a, add-one)
+series_next q n = rw add-one
 
-pub series_done : (q : Su3) {m n : ℕ} {s : Su3} → m ≡ n → s ≡ series_of q m → s ≡ series_of q n
-series_done q h e = rw (e, h)
+pub ruleset exponential = (term_none, term_next, series_none, series_next)
+
+-- ## a test of all entries
+all_first : (f : ℕ → Bool) (n : ℕ) → all_below f (suc n) ≡ f 0 && all_below (λ k. f (suc k)) n
+unfolding all_below
+all_first f zero = sym (and-true (f 0))
+all_first f (suc n) = ap (λ b. b && f (suc n)) (all_first f n) ∙ and_assoc (f 0) (all_below (λ k. f (suc k)) n) (f (suc n))
+
+pub list_all_below : {A : Type 0} (test : A → Bool) (z : A) (l : List A) → list_all test l ≡ all_below (λ k. test (get_or l k z)) (length l)
+unfolding all_below
+list_all_below test z [] = refl
+list_all_below test z (x ∷ l) = ap (λ b. test x && b) (list_all_below test z l) ∙ sym (all_first (λ k. test (get_or (x ∷ l) k z)) (length l))
 
 -- ## answers
 pub matrix_refused : {row : ℕ} (r : ℕ) (u : Su3) → row ≡ suc r → record { refusal = suc r; matrix = zero_of } ≡ matrix_answer row u

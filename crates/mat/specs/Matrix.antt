@@ -1,5 +1,5 @@
 -- Complex 3×3 matrices by their entries: reading, making, and what works entry by entry.
-use Rattle.std.specs.Prelude.{ℕ, ◌+◌, ◌*◌, Bool, List, [], ◌∷◌, get_or, Float}
+use Rattle.std.specs.Prelude.{◌≡◌, ℕ, ◌+◌, ◌*◌, Bool, List, [], ◌∷◌, get_or, Float}
 use Rattle.folds.specs.Folds.{fold_to, all_below}
 use Rattle.complex.specs.declared.C64.{C64}
 use Rattle.mat.specs.declared.Su3.{Su3}
@@ -27,6 +27,19 @@ tabulate f = record { m = f 0 0 ∷ f 0 1 ∷ f 0 2 ∷ f 1 0 ∷ f 1 1 ∷ f 1 
 -- the matrix with f k as its k-th entry
 abbrev pub each : (ℕ → C64) → Su3
 each f = record { m = f 0 ∷ f 1 ∷ f 2 ∷ f 3 ∷ f 4 ∷ f 5 ∷ f 6 ∷ f 7 ∷ f 8 ∷ [] }
+
+-- P i j holds of the entry at row i and column j, each below 3
+pub record Table (P : ℕ → ℕ → C64 → Type 0) (u : Su3) : Type 0 where
+  pub whole : u ≡ tabulate (at u)
+  pub e00 : P 0 0 (at u 0 0)
+  pub e01 : P 0 1 (at u 0 1)
+  pub e02 : P 0 2 (at u 0 2)
+  pub e10 : P 1 0 (at u 1 0)
+  pub e11 : P 1 1 (at u 1 1)
+  pub e12 : P 1 2 (at u 1 2)
+  pub e20 : P 2 0 (at u 2 0)
+  pub e21 : P 2 1 (at u 2 1)
+  pub e22 : P 2 2 (at u 2 2)
 
 abbrev pub zeros : List C64
 zeros = czero ∷ czero ∷ czero ∷ czero ∷ czero ∷ czero ∷ czero ∷ czero ∷ czero ∷ []

@@ -1,7 +1,6 @@
 -- A matrix by its rows, and its projection onto SU(3) by Gram and Schmidt.
-use Rattle.std.specs.Prelude.{ℕ, ◌+◌, ◌*◌, [], ◌∷◌}
+use Rattle.std.specs.Prelude.{ℕ, ◌+◌, ◌*◌, List, [], ◌∷◌}
 use Rattle.complex.specs.declared.Row.{Row}
-use Rattle.mat.specs.declared.Rows.{Rows}
 use Rattle.mat.specs.declared.Su3.{Su3}
 use Rattle.mat.specs.Matrix.{ent}
 use Rattle.complex.specs.Row.{conj_dot, row_sub_mul, unit_row, cross_conj}
@@ -10,8 +9,8 @@ use Rattle.complex.specs.Row.{conj_dot, row_sub_mul, unit_row, cross_conj}
 unfoldable pub row_of : Su3 → ℕ → Row
 row_of a i = record { c0 = ent a (3 * i); c1 = ent a (3 * i + 1); c2 = ent a (3 * i + 2) }
 
-unfoldable pub rows_of : Su3 → Rows
-rows_of a = record { r0 = row_of a 0; r1 = row_of a 1; r2 = row_of a 2 }
+unfoldable pub rows_of : Su3 → List Row
+rows_of a = row_of a 0 ∷ row_of a 1 ∷ row_of a 2 ∷ []
 
 -- the matrix with the rows u, v, w
 unfoldable pub of_rows : Row → Row → Row → Su3

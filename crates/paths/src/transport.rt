@@ -59,7 +59,7 @@ impl<'a> Walker<'a> {
         for step in steps.as_slice() {
             let mu = usize::from(step.axis);
             if step.forward {
-                u = u.mul(self.link(mu));
+                u = u * self.link(mu);
                 self.up(mu);
             } else {
                 self.down(mu);
@@ -76,7 +76,7 @@ impl<'a> Walker<'a> {
     {
         let mut u = Su3::IDENTITY;
         for _ in 0..t_len {
-            u = u.mul(self.link(0));
+            u = u * self.link(0);
             self.up(0);
         }
         u

@@ -1,187 +1,44 @@
-// Products of matrices of a lent list where they stand: a matrix that is loaded first is copied.
+// The product of two 3×3 matrices by their entries, wherever these stand: in a value, in a lent list of
+// numbers, or as those of a conjugate transpose. So no matrix is copied to be multiplied.
 #![tactic(auto)]
 
-ghost use Rattle.std.specs.Prelude.{◌≡◌, ◌+◌, ◌<◌, ◌≤◌, length};
-ghost use Rattle.mat.specs.Matrix.{dagger_of, trace_of};
-ghost use Rattle.mat.specs.Product.{row_col, row_row, col_col, mul_of, mul_dag_of, dag_mul_of};
-ghost use Rattle.links.specs.Store.{matrix_at, TwoMatrices};
+ghost use Rattle.std.specs.Prelude.{◌≡◌, ◌<◌, ℕ};
+ghost use Rattle.complex.specs.declared.C64.{C64};
+ghost use Rattle.products.specs.Product.{product_at, adjoint_at};
 
 use complex::C64;
-use mat::Su3;
 
-// Entry (i, j) of a·b, where a and b stand at two places.
-pub fn mul_entry_at(links: &[f64], a: usize, b: usize, i: usize, j: usize) -> C64
-    requires { TwoMatrices links.now a b × (i < 3) × (j < 3) }
-    ensures { result ≡ row_col (matrix_at links.now a) (matrix_at links.now b) i j }
-{
-    let mut s = C64::ZERO;
-    for k in 0..3 {
-        s = s.add(links::cell(links, a + 2 * (3 * i + k)).mul(links::cell(
-            links,
-            b + 2 * (3 * k + j),
-        )));
+// A 3×3 matrix whose entries can be read.
+pub trait Entries: Copy {
+    ghost entries: { Self → ℕ → ℕ → C64 };
+
+    // The entry at row i and column j.
+    fn entry(self, i: usize, j: usize) -> C64
+        requires { (i < 3) × (j < 3) }
+        ensures { result ≡ entries self i j };
+}
+
+// The conjugate transpose of a matrix.
+#[derive(Clone, Copy)]
+pub struct Adjoint<M>(pub M);
+
+impl<M: Entries> Entries for Adjoint<M> {
+    ghost entries = { λ u. adjoint_at (M.entries u.0) };
+
+    #[tactic(auto, unfolding(crate::specs::Product::adjoint_at))]
+    fn entry(self, i: usize, j: usize) -> C64 {
+        self.0.entry(j, i).conj()
     }
-    s
 }
 
-// Entry (i, j) of a·b†, where a and b stand at two places.
-fn mul_dag_entry_at(links: &[f64], a: usize, b: usize, i: usize, j: usize) -> C64
-    requires { TwoMatrices links.now a b × (i < 3) × (j < 3) }
-    ensures { result ≡ row_row (matrix_at links.now a) (matrix_at links.now b) i j }
+// Entry (i, j) of a·b.
+#[tactic(auto, unfolding(crate::specs::Product::product_at, folds::specs::Folds::fold_to))]
+pub fn row_col<A: Entries, B: Entries>(a: A, b: B, i: usize, j: usize) -> C64
+    requires { (i < 3) × (j < 3) }
+    ensures { result ≡ product_at (A.entries a) (B.entries b) i j }
 {
-    let mut s = C64::ZERO;
-    for k in 0..3 {
-        s = s.add(links::cell(links, a + 2 * (3 * i + k)).mul(links::cell(
-            links,
-            b + 2 * (3 * j + k),
-        ).conj()));
-    }
-    s
-}
-
-// Entry (i, j) of a†·b†, where a and b stand at two places.
-fn dag_mul_dag_entry_at(links: &[f64], a: usize, b: usize, i: usize, j: usize) -> C64
-    requires { TwoMatrices links.now a b × (i < 3) × (j < 3) }
-    ensures { result ≡ col_col (matrix_at links.now a) (dagger_of (matrix_at links.now b)) i j }
-{
-    let mut s = C64::ZERO;
-    for k in 0..3 {
-        s = s.add(
-            links::cell(links, a + 2 * (3 * k + i))
-                .conj()
-                .mul(links::cell(links, b + 2 * (3 * j + k)).conj()),
-        );
-    }
-    s
-}
-
-// Entry (i, j) of a·b, where b stands at a place.
-fn mul_entry_by(a: Su3, links: &[f64], b: usize, i: usize, j: usize) -> C64
-    requires { (b + 18 ≤ length links.now) × (i < 3) × (j < 3) }
-    ensures { result ≡ row_col a (matrix_at links.now b) i j }
-{
-    let m = a.m;
-    let mut s = C64::ZERO;
-    for k in 0..3 {
-        s = s.add(m[3 * i + k].mul(links::cell(links, b + 2 * (3 * k + j))));
-    }
-    s
-}
-
-// Entry (i, j) of a·b†, where b stands at a place.
-fn mul_dag_entry_by(a: Su3, links: &[f64], b: usize, i: usize, j: usize) -> C64
-    requires { (b + 18 ≤ length links.now) × (i < 3) × (j < 3) }
-    ensures { result ≡ row_row a (matrix_at links.now b) i j }
-{
-    let m = a.m;
-    let mut s = C64::ZERO;
-    for k in 0..3 {
-        s = s.add(m[3 * i + k].mul(links::cell(links, b + 2 * (3 * j + k)).conj()));
-    }
-    s
-}
-
-// a·b, of the matrices at two places.
-pub fn mul_at(links: &[f64], a: usize, b: usize) -> Su3
-    requires { TwoMatrices links.now a b }
-    ensures { result ≡ mul_of (matrix_at links.now a) (matrix_at links.now b) }
-{
-    let m = [
-        mul_entry_at(links, a, b, 0, 0),
-        mul_entry_at(links, a, b, 0, 1),
-        mul_entry_at(links, a, b, 0, 2),
-        mul_entry_at(links, a, b, 1, 0),
-        mul_entry_at(links, a, b, 1, 1),
-        mul_entry_at(links, a, b, 1, 2),
-        mul_entry_at(links, a, b, 2, 0),
-        mul_entry_at(links, a, b, 2, 1),
-        mul_entry_at(links, a, b, 2, 2),
-    ];
-    Su3 { m }
-}
-
-// a·b†, of the matrices at two places.
-pub fn mul_dag_at(links: &[f64], a: usize, b: usize) -> Su3
-    requires { TwoMatrices links.now a b }
-    ensures { result ≡ mul_dag_of (matrix_at links.now a) (matrix_at links.now b) }
-{
-    let m = [
-        mul_dag_entry_at(links, a, b, 0, 0),
-        mul_dag_entry_at(links, a, b, 0, 1),
-        mul_dag_entry_at(links, a, b, 0, 2),
-        mul_dag_entry_at(links, a, b, 1, 0),
-        mul_dag_entry_at(links, a, b, 1, 1),
-        mul_dag_entry_at(links, a, b, 1, 2),
-        mul_dag_entry_at(links, a, b, 2, 0),
-        mul_dag_entry_at(links, a, b, 2, 1),
-        mul_dag_entry_at(links, a, b, 2, 2),
-    ];
-    Su3 { m }
-}
-
-// a†·b†, of the matrices at two places.
-pub fn dag_mul_dag_at(links: &[f64], a: usize, b: usize) -> Su3
-    requires { TwoMatrices links.now a b }
-    ensures { result ≡ dag_mul_of (matrix_at links.now a) (dagger_of (matrix_at links.now b)) }
-{
-    let m = [
-        dag_mul_dag_entry_at(links, a, b, 0, 0),
-        dag_mul_dag_entry_at(links, a, b, 0, 1),
-        dag_mul_dag_entry_at(links, a, b, 0, 2),
-        dag_mul_dag_entry_at(links, a, b, 1, 0),
-        dag_mul_dag_entry_at(links, a, b, 1, 1),
-        dag_mul_dag_entry_at(links, a, b, 1, 2),
-        dag_mul_dag_entry_at(links, a, b, 2, 0),
-        dag_mul_dag_entry_at(links, a, b, 2, 1),
-        dag_mul_dag_entry_at(links, a, b, 2, 2),
-    ];
-    Su3 { m }
-}
-
-// a·b, where b stands at a place.
-pub fn mul_by(a: Su3, links: &[f64], b: usize) -> Su3
-    requires { b + 18 ≤ length links.now }
-    ensures { result ≡ mul_of a (matrix_at links.now b) }
-{
-    let m = [
-        mul_entry_by(a, links, b, 0, 0),
-        mul_entry_by(a, links, b, 0, 1),
-        mul_entry_by(a, links, b, 0, 2),
-        mul_entry_by(a, links, b, 1, 0),
-        mul_entry_by(a, links, b, 1, 1),
-        mul_entry_by(a, links, b, 1, 2),
-        mul_entry_by(a, links, b, 2, 0),
-        mul_entry_by(a, links, b, 2, 1),
-        mul_entry_by(a, links, b, 2, 2),
-    ];
-    Su3 { m }
-}
-
-// a·b†, where b stands at a place.
-pub fn mul_dag_by(a: Su3, links: &[f64], b: usize) -> Su3
-    requires { b + 18 ≤ length links.now }
-    ensures { result ≡ mul_dag_of a (matrix_at links.now b) }
-{
-    let m = [
-        mul_dag_entry_by(a, links, b, 0, 0),
-        mul_dag_entry_by(a, links, b, 0, 1),
-        mul_dag_entry_by(a, links, b, 0, 2),
-        mul_dag_entry_by(a, links, b, 1, 0),
-        mul_dag_entry_by(a, links, b, 1, 1),
-        mul_dag_entry_by(a, links, b, 1, 2),
-        mul_dag_entry_by(a, links, b, 2, 0),
-        mul_dag_entry_by(a, links, b, 2, 1),
-        mul_dag_entry_by(a, links, b, 2, 2),
-    ];
-    Su3 { m }
-}
-
-// Tr a·b, where b stands at a place: of the product its diagonal alone.
-pub fn trace_mul_by(a: Su3, links: &[f64], b: usize) -> C64
-    requires { b + 18 ≤ length links.now }
-    ensures { result ≡ trace_of (mul_of a (matrix_at links.now b)) }
-{
-    mul_entry_by(a, links, b, 0, 0)
-        .add(mul_entry_by(a, links, b, 1, 1))
-        .add(mul_entry_by(a, links, b, 2, 2))
+    C64::ZERO
+        + a.entry(i, 0) * b.entry(0, j)
+        + a.entry(i, 1) * b.entry(1, j)
+        + a.entry(i, 2) * b.entry(2, j)
 }

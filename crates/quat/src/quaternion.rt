@@ -6,6 +6,7 @@ use complex::C64;
 
 impl Quat {
     // The orthogonal projection under `Re Tr` of a 2×2 block onto the real span of SU(2).
+    #[tactic(auto, unfolding(crate::specs::Quaternion::project_of))]
     pub fn project(w: Mat2) -> Self
         ensures { result ≡ project_of w }
     {
@@ -17,6 +18,7 @@ impl Quat {
         }
     }
 
+    #[tactic(auto, unfolding(crate::specs::Quaternion::quat_norm))]
     pub fn norm(self) -> f64
         ensures { result ≡ quat_norm self }
     {
@@ -25,6 +27,7 @@ impl Quat {
         )
     }
 
+    #[tactic(auto, unfolding(crate::specs::Quaternion::quat_conj))]
     pub fn conj(self) -> Self
         ensures { result ≡ quat_conj self }
     {
@@ -37,19 +40,26 @@ impl Quat {
     }
 
     // (a0 + i a·σ)(b0 + i b·σ) = a0 b0 − a·b + i(a0 b + b0 a − a × b)
+    #[tactic(auto, unfolding(crate::specs::Quaternion::quat_mul))]
     pub fn mul(self, o: Quat) -> Self
         ensures { result ≡ quat_mul self o }
     {
-        let a = self;
-        let b = o;
+        let Self { a0, a1, a2, a3 } = self;
+        let Self {
+            a0: b0,
+            a1: b1,
+            a2: b2,
+            a3: b3,
+        } = o;
         Self {
-            a0: a.a0 * b.a0 - a.a1 * b.a1 - a.a2 * b.a2 - a.a3 * b.a3,
-            a1: a.a0 * b.a1 + b.a0 * a.a1 - (a.a2 * b.a3 - a.a3 * b.a2),
-            a2: a.a0 * b.a2 + b.a0 * a.a2 - (a.a3 * b.a1 - a.a1 * b.a3),
-            a3: a.a0 * b.a3 + b.a0 * a.a3 - (a.a1 * b.a2 - a.a2 * b.a1),
+            a0: a0 * b0 - a1 * b1 - a2 * b2 - a3 * b3,
+            a1: a0 * b1 + b0 * a1 - (a2 * b3 - a3 * b2),
+            a2: a0 * b2 + b0 * a2 - (a3 * b1 - a1 * b3),
+            a3: a0 * b3 + b0 * a3 - (a1 * b2 - a2 * b1),
         }
     }
 
+    #[tactic(auto, unfolding(crate::specs::Quaternion::to_mat))]
     pub fn to_mat(self) -> Mat2
         ensures { result ≡ to_mat self }
     {

@@ -27,15 +27,6 @@ impl Mat2 {
     };
 }
 
-// No call needs it: its contract ties the table to the definition.
-fn listed(subgroup: usize) -> Subgroup
-    requires { subgroup < 3 }
-    ensures { result ≡ subgroup_of subgroup }
-{
-    let subgroups = SUBGROUPS;
-    subgroups[subgroup]
-}
-
 // Worked out, since a look into the table would copy it.
 fn pair(subgroup: usize) -> Result<Subgroup, Refusal>
     ensures pair { Checked ((ltb 2 subgroup, Refusal.Direction) ∷ []) (λ p. p ≡ subgroup_of subgroup) result }
@@ -50,43 +41,43 @@ fn pair(subgroup: usize) -> Result<Subgroup, Refusal>
     })
 }
 
+#[tactic(auto, unfolding(mat::specs::Unitary::row_of))]
 fn row(u: Su3, i: usize) -> Row
     requires { i < 3 }
     ensures { result ≡ row_of u i }
 {
-    let m = u.m;
-    let c0 = m[3 * i];
-    let c1 = m[3 * i + 1];
-    let c2 = m[3 * i + 2];
-    Row { c0, c1, c2 }
+    Row {
+        c0: u.m[3 * i],
+        c1: u.m[3 * i + 1],
+        c2: u.m[3 * i + 2],
+    }
 }
 
-fn with_row(u: Su3, i: usize, v: Row) -> Su3
+#[tactic(auto, unfolding(crate::specs::Subgroup::with_row))]
+fn with_row(mut u: Su3, i: usize, v: Row) -> Su3
     requires { i < 3 }
     ensures { result ≡ with_row u i v }
 {
-    let mut m = u.m;
-    let c0 = v.c0;
-    let c1 = v.c1;
-    let c2 = v.c2;
-    m[3 * i] = c0;
-    m[3 * i + 1] = c1;
-    m[3 * i + 2] = c2;
-    Su3 { m }
+    u.m[3 * i] = v.c0;
+    u.m[3 * i + 1] = v.c1;
+    u.m[3 * i + 2] = v.c2;
+    u
 }
 
+#[tactic(auto, unfolding(crate::specs::Subgroup::block_of))]
 fn block(u: Su3, i: usize, j: usize) -> Mat2
     requires { (i < 3) × (j < 3) }
     ensures { result ≡ block_of u i j }
 {
-    let m = u.m;
-    let m00 = m[3 * i + i];
-    let m01 = m[3 * i + j];
-    let m10 = m[3 * j + i];
-    let m11 = m[3 * j + j];
-    Mat2 { m00, m01, m10, m11 }
+    Mat2 {
+        m00: u.m[3 * i + i],
+        m01: u.m[3 * i + j],
+        m10: u.m[3 * j + i],
+        m11: u.m[3 * j + j],
+    }
 }
 
+#[tactic(auto, unfolding(crate::specs::Subgroup::left_mul_rows))]
 fn left_mul_rows(u: Su3, i: usize, j: usize, x: Mat2) -> Su3
     requires { (i < 3) × (j < 3) }
     ensures { result ≡ left_mul_rows u i j x }

@@ -10,11 +10,11 @@ fn combined(call: u32, p: Pair) -> Su3 {
     let a = p.a;
     let b = p.b;
     match call {
-        0 => a.mul(b),
+        0 => a * b,
         1 => a.mul_dag(b),
         2 => a.dag_mul(b),
-        3 => a.add(b),
-        4 => a.sub(b),
+        3 => a + b,
+        4 => a - b,
         5 => a.dagger(),
         _ => {
             let m = b.m;

@@ -32,10 +32,10 @@ fn answer(call: u32, h: Fnv, a: C64, b: C64) -> Fnv {
         1 => h.complex(a.conj()),
         2 => h.number(a.norm_sqr()),
         3 => h.complex(a.scale(b.re)),
-        4 => h.complex(a.add(b)),
-        5 => h.complex(a.sub(b)),
-        6 => h.complex(a.mul(b)),
-        _ => h.complex(a.neg()),
+        4 => h.complex(a + b),
+        5 => h.complex(a - b),
+        6 => h.complex(a * b),
+        _ => h.complex(-a),
     }
 }
 

@@ -145,7 +145,7 @@ pub fn link(kind: Kind, mu: u64, site: u64) -> Su3 {
         Kind::Cold => Su3::IDENTITY,
         Kind::Raw => u,
         Kind::Group => u.reunitarize(),
-        Kind::Smooth => Su3::IDENTITY.add(u.scale(0.1)).reunitarize(),
+        Kind::Smooth => (Su3::IDENTITY + u.scale(0.1)).reunitarize(),
         Kind::Damaged => damaged(u.reunitarize(), &mut rng),
         // 1.25 * 2^127
         Kind::Huge => u.scale(212676479325586539664609129644855132160.0),

@@ -16,8 +16,6 @@ pub fn stout_link(lattice: Su3Lattice<'_>, n: usize, mu: usize, rho: f64, terms:
 {
     let Su3Lattice { extents, links } = lattice;
     let u = links::link(links, extents.sites(), mu, n);
-    let x = u
-        .mul(gauge::staple(links, extents.d, n, mu))
-        .traceless_antihermitian();
-    Su3::exp_series(x.scale(-rho), terms).reunitarize().mul(u)
+    let x = (u * gauge::staple(links, extents.d, n, mu)).traceless_antihermitian();
+    Su3::exp_series(x.scale(-rho), terms).reunitarize() * u
 }

@@ -86,7 +86,7 @@ impl Plane<'_> {
         site.link(nu, site.n)
             .mul_dag(site.link(mu, self.above_left()))
             .mul_dag(site.link(nu, b))
-            .mul(site.link(mu, b))
+            * site.link(mu, b)
     }
 
     // U_μ†(b) U_ν†(w) U_μ(w) U_ν(c): b is n - mu, c is n - nu, w is n - mu - nu.
@@ -95,8 +95,8 @@ impl Plane<'_> {
     {
         let Plane { site, mu, nu } = *self;
         let w = self.below_left();
-        let x = site.link(nu, w).mul(site.link(mu, site.down(mu)));
-        let y = site.link(mu, w).mul(site.link(nu, site.down(nu)));
+        let x = site.link(nu, w) * site.link(mu, site.down(mu));
+        let y = site.link(mu, w) * site.link(nu, site.down(nu));
         x.dag_mul(y)
     }
 
@@ -110,7 +110,7 @@ impl Plane<'_> {
         let y = site
             .link(nu, self.below_right())
             .mul_dag(site.link(mu, site.n));
-        x.mul(y)
+        x * y
     }
 
     // The sum of the four leaves, the plaquette first.
@@ -130,7 +130,7 @@ impl Plane<'_> {
         let l2 = self.upper_left();
         let l3 = self.lower_left();
         let l4 = self.lower_right();
-        l1.add(l2).add(l3).add(l4)
+        l1 + l2 + l3 + l4
     }
 
     // F_μν.

@@ -1,33 +1,18 @@
 #![tactic(auto, unfolding(mat::specs::Matrix::re_tr, mat::specs::Product::mul_of, mat::specs::Product::row_col, crate::specs::Densities::trace_product, crate::specs::Densities::plane_density, crate::specs::Densities::electric_of, crate::specs::Densities::action_density_of, crate::specs::Densities::charge_factor, crate::specs::Densities::charge_density_of, crate::specs::Densities::density_of, crate::specs::Densities::InSpace))]
 
 ghost use Rattle.std.specs.Prelude.{◌≡◌, ◌<◌};
-ghost use Rattle.mat.specs.Product.{row_col};
 ghost use Rattle.gauge.specs.Field.{link_of};
 ghost use Rattle.strength.specs.Densities.{trace_product, plane_density, action_density_of, charge_density_of, density_of, InSpace};
 
 use crate::{Density, Plane, Site};
-use complex::C64;
 use mat::Su3;
 
-// The real part of the i-th entry on the diagonal of a·b.
-fn diagonal(a: Su3, b: Su3, i: usize) -> f64
-    requires { i < 3 }
-    ensures { result ≡ (row_col a b i i).re }
-{
-    let x = a.m;
-    let y = b.m;
-    let mut s = C64::ZERO;
-    for k in 0..3 {
-        s = s.add(x[3 * i + k].mul(y[3 * k + i]));
-    }
-    s.re
-}
-
 // Re Tr a·b, of which only the diagonal is worked out.
+#[tactic(auto, using(mat::proofs::Tables::product_is), unfolding(crate::specs::Densities::trace_product, mat::specs::Matrix::trace_of, mat::specs::Matrix::re_tr, complex::specs::Complex::cadd))]
 fn trace_product(a: Su3, b: Su3) -> f64
     ensures { result ≡ trace_product a b }
 {
-    diagonal(a, b, 0) + diagonal(a, b, 1) + diagonal(a, b, 2)
+    Su3::trace_of_product(&a, &b).re
 }
 
 impl Plane<'_> {

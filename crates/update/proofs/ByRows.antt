@@ -11,7 +11,7 @@ use Rattle.mat.specs.Product.{mul_of}
 use Rattle.mat.specs.Unitary.{row_of, of_rows, unitary_of, reunitarize_of}
 use Rattle.quat.specs.Quaternion.{project_of}
 use Rattle.quat.specs.Subgroup.{subgroup_of, block_of, sub_block, with_row, left_mul_rows, left_mul_sub}
-use Rattle.mat.proofs.Entries.{rows_are}
+use Rattle.mat.proofs.Tables.{rows_are}
 use Rattle.update.specs.declared.Stuck.{Stuck}
 use Rattle.update.specs.Update.{reflected, short_norm, reflection_of, if_finite, through_subgroups, update_link_of}
 

@@ -117,9 +117,9 @@ fn from_first(a: Row, b: Row, c: Row, p: Row, q: Row, r: Row) -> Result<Su3, Stu
 pub fn update_link(u: Su3, a: Su3) -> Result<Su3, Stuck>
     ensures { result ≡ update_link_of u a }
 {
-    let w = u.mul(a).rows();
-    let u = u.rows();
-    from_first(u.r0, u.r1, u.r2, w.r0, w.r1, w.r2)
+    let [p, q, r] = (u * a).rows();
+    let [a, b, c] = u.rows();
+    from_first(a, b, c, p, q, r)
 }
 
 // The update of a field's link.

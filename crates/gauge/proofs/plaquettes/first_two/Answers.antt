@@ -8,18 +8,6 @@ use Rattle.gauge.proofs.plaquettes.first_two.Goals as goal
 pub loop-k-init : goal.loop-k-init
 loop-k-init c = (omega arith, fold_none _ _ _, fold_none _ _ _)
 
-pub mul_entry_at-requires : goal.mul_entry_at-requires
-mul_entry_at-requires c = let q = c.requires in (q.0, omega arith, c.loop-k-test.true)
-
-pub mul_entry_at-requires-in-loop-k : goal.mul_entry_at-requires-in-loop-k
-mul_entry_at-requires-in-loop-k c = let q = c.requires in (q.1, omega arith, c.loop-k-test.true)
-
-pub mul_entry_at-requires-in-loop-k-2 : goal.mul_entry_at-requires-in-loop-k-2
-mul_entry_at-requires-in-loop-k-2 c = let q = c.requires in (q.0, omega arith, c.loop-k-test.true)
-
-pub mul_entry_at-requires-in-loop-k-3 : goal.mul_entry_at-requires-in-loop-k-3
-mul_entry_at-requires-in-loop-k-3 c = let q = c.requires in (q.1, omega arith, c.loop-k-test.true)
-
 pub overflow_step-k : goal.overflow_step-k
 overflow_step-k c = let h = c.loop-k-test.true in omega arith
 
@@ -31,8 +19,8 @@ loop-k-preserved c =
     let i = c.loop-k.invariant in
     let h = c.loop-k-test.true in (
       omega arith,
-      dot_next _ _ _ _ 0 _ (omega arith) h i.1 c.mul_entry_at.ensures c.mul_entry_at-in-loop-k.ensures c.conj.ensures c.mul.ensures c.add-s.ensures,
-      dot_next _ _ _ _ 1 _ (omega arith) h i.2 c.mul_entry_at-in-loop-k-2.ensures c.mul_entry_at-in-loop-k-3.ensures c.conj-in-loop-k.ensures c.mul-in-loop-k.ensures c.add-t.ensures,
+      dot_next _ _ _ _ 0 _ (omega arith) h i.1 c.row_col.ensures c.row_col-in-loop-k.ensures c.conj.ensures c.mul.ensures c.add_assign.ensures.after,
+      dot_next _ _ _ _ 1 _ (omega arith) h i.2 c.row_col-in-loop-k-2.ensures c.row_col-in-loop-k-3.ensures c.conj-in-loop-k.ensures c.mul-in-loop-k.ensures c.add_assign-in-loop-k.ensures.after,
     )
 
 pub returns : goal.returns

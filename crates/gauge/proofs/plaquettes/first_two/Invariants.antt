@@ -1,12 +1,9 @@
 use Prim.Native.Nat.{◌-◌, ◌≤◌}
 use mathlib.Core.Path.{◌≡◌}
 use Rattle.mat.specs.Product.{mul_of}
-use Rattle.links.specs.Store.{matrix_at}
+use Rattle.links.specs.Lent.{lent_of}
 use Rattle.gauge.proofs.RowProducts.{dot_to}
 use Rattle.gauge.proofs.plaquettes.first_two.Given as goal
 
 abbrev pub invariant-loop-k : goal.invariant-loop-k
-invariant-loop-k l = (l.k ≤ 3) × (l.s ≡ dot_to (mul_of (matrix_at l.links l.a) (matrix_at l.links l.b)) (mul_of (matrix_at l.links l.c) (matrix_at l.links l.e)) 0 l.k) × (l.t ≡ dot_to (mul_of (matrix_at l.links l.a) (matrix_at l.links l.b)) (mul_of (matrix_at l.links l.c) (matrix_at l.links l.e)) 1 l.k)
-
-abbrev pub decreases-loop-k : goal.decreases-loop-k
-decreases-loop-k l = 3 - l.k
+invariant-loop-k l = (l.k ≤ 3) × (l.s ≡ dot_to (mul_of (lent_of l.a) (lent_of l.b)) (mul_of (lent_of l.c) (lent_of l.e)) 0 l.k) × (l.t ≡ dot_to (mul_of (lent_of l.a) (lent_of l.b)) (mul_of (lent_of l.c) (lent_of l.e)) 1 l.k)

@@ -1,13 +1,13 @@
 use lib.ListN.{get_or}
 use Prim.Native.Nat.{ℕ, ◌+◌, ◌*◌, ◌-◌, ◌<◌, ◌≤◌}
-use mathlib.Core.Path.{◌≡◌, refl}
+use mathlib.Core.Path.{◌≡◌, refl, ◌∙◌}
 use native.Mathlib.Omega.{arith}
 use mathlib.Core.List.{List}
 use lib.Ieee.{Float}
 use Rattle.geometry.specs.Radix.{volume}
 use Rattle.geometry.proofs.Shape.{axis_in, volume_high}
 use Rattle.links.specs.Field.{Stored, field_of}
-use Rattle.links.proofs.Laws.{room_at}
+use Rattle.mat.proofs.Tables.{product_is}
 use Rattle.gauge.specs.Field.{Holds}
 use Rattle.gauge.specs.Polyakov.{space, polyakov_trace}
 use Rattle.gauge.proofs.Fits.{sized}
@@ -55,11 +55,8 @@ loop-t-preserved c = (omega arith, line_next _ _ _ c.loop-t.invariant.1 (rw c.li
 pub overflow_add-first-2 : goal.overflow_add-first-2
 overflow_add-first-2 c = let q = c.requires in omega (arith, below q _ (last q), few q)
 
-pub place-requires : goal.place-requires
-place-requires c = let q = c.requires in let s = stored q _ (last q) in (s.sized.small, s.axis, s.below)
-
-pub trace_mul_by-requires : goal.trace_mul_by-requires
-trace_mul_by-requires c = let s = let q = c.requires in stored q _ (last q) in room_at _ _ _ _ s.sized s.axis s.below c.place.ensures
+pub lend-requires : goal.lend-requires
+lend-requires c = let q = c.requires in stored q _ (last q)
 
 pub returns : goal.returns
 unfolding polyakov_trace
@@ -70,4 +67,4 @@ returns c =
     let e : t ≡ get_or args.d 0 0 - 1 = omega arith in
     let all : t + 1 ≡ get_or args.d 0 0 = omega (arith, some q) in
     let line = line_next (field_of args.v args.links.now) _ t c.loop-t.invariant.1 refl in
-    rw (c.trace_mul_by.ensures, c.place.ensures, ← e, line, q.1, line_by_lem _ (axis_in _ q.0.shape 0 (omega arith)) _ q.2 _ _ all)
+    rw (c.trace_of_product.ensures, c.lend.ensures, product_is, ← e, line, q.1, line_by_lem _ (axis_in _ q.0.shape 0 (omega arith)) _ q.2 _ _ all)

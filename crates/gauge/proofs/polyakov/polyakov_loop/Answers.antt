@@ -26,7 +26,7 @@ pub overflow_step-k : goal.overflow_step-k
 overflow_step-k c = let s = places_small _ c.requires.shape in let t = c.loop-k-test.true in omega (arith, s.xyz)
 
 pub loop-k-preserved : goal.loop-k-preserved
-loop-k-preserved c = (omega arith, fold_next _ _ _ _ c.loop-k.invariant.1 c.loop_trace.ensures c.add-s.ensures)
+loop-k-preserved c = (omega arith, fold_next _ _ _ _ c.loop-k.invariant.1 c.loop_trace.ensures c.add_assign.ensures.after)
 
 pub overflow_cast-places : goal.overflow_cast-places
 overflow_cast-places c = let s = places_small _ c.requires.shape in omega (arith, s.xyz)
