@@ -1,7 +1,6 @@
--- Matrices by entries; `Answers` has what a call that can refuse gives.
+-- Matrices by entries.
 pub mod Matrix
 pub mod Product
 pub mod Unitary
 pub mod Traceless
 pub mod Exponential
-pub mod Answers

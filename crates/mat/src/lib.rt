@@ -18,10 +18,3 @@ use complex::C64;
 pub struct Su3 {
     pub m: [C64; 9],
 }
-
-// A matrix, and 0; or the row that refuses the call, and zeros.
-#[derive(Clone, Copy)]
-pub struct MatrixAnswer {
-    pub refusal: u32,
-    pub matrix: Su3,
-}
