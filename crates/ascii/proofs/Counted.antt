@@ -1,7 +1,7 @@
 -- How many digits a number has, and the lines of numbers; a finite number is no NaN.
 use Prim.Native.Nat.{ℕ, zero, suc, ◌+◌, ◌*◌, ◌/◌, ◌-◌, ◌^◌, ◌≤◌, ◌<◌}
 use mathlib.Core.Bool.{Bool, true, false, cond, not, true≢false}
-use mathlib.Core.Path.{◌≡◌, refl, sym, ap, subst, ◌∙◌}
+use mathlib.Core.Path.{◌≡◌, refl, sym, ap, ◌∙◌}
 use native.Mathlib.Nat.{one-le-pow, pow-suc, pow-le-pow_right}
 use native.Mathlib.Omega.{arith}
 use lib.Dec.{T, ltb}
@@ -10,12 +10,9 @@ use lib.Ieee.Scale.{finite}
 use borrow.Author.Tests.{ltb-true, ltb-false}
 use Rattle.io.specs.Digits.{IsDigitCount}
 use mathlib.Core.List.{List}
-use lib.ListN.{length, take}
-use Rattle.io.specs.Counts.{IsPrefixLen}
+use lib.ListN.{take}
 use Rattle.io.specs.Digits.{last_digits}
-use Rattle.ascii.specs.Lines.{places_of, decimal_text, hex_text, text_line}
-use Rattle.ascii.specs.Laid.{Laid}
-use Rattle.ascii.proofs.Laws.{length_line}
+use Rattle.ascii.specs.Lines.{places_of, decimal_text, hex_text}
 
 -- the least number of so many digits
 least : (n s : ℕ) → IsDigitCount 10 1 n (suc (suc s)) → 10 ^ s * 10 ≤ n
@@ -81,20 +78,12 @@ no_nan nan h = absurd (true≢false (sym h))
 no_nan (inf s) h = tt
 no_nan (fin s m e) h = tt
 
--- the line of digits that were put at the start of a list
-module _ {at end : ℕ} {old new : List ℕ} (name : List ℕ) (r : ℕ) (out : List ℕ) (counts : IsPrefixLen r out) (laid : Laid at (text_line name (take r out)) old end new) where
-  pub decimal_line : (n : ℕ) → n < 2 ^ 64 → IsDigitCount 10 1 n r → take r out ≡ last_digits 10 r n
-      → Laid at (text_line name (decimal_text n)) old end new × (end ≤ at + length name + 22)
+-- the text of digits that were put at the start of a list
+module _ (r : ℕ) (out : List ℕ) where
+  pub decimal_digits : (n : ℕ) → n < 2 ^ 64 → IsDigitCount 10 1 n r → take r out ≡ last_digits 10 r n → take r out ≡ decimal_text n
   unfolding decimal_text
-  decimal_line n small f e =
-      let most = twenty n r small f in
-      let len = length_line name (take r out) in
-      (rw (← places_fewest 19 n r (omega arith) f, ← e) laid, omega (arith, laid.next, counts.1))
+  decimal_digits n small f e = rw (← places_fewest 19 n r (omega arith) f) e
 
-  pub word_line : (n : ℕ) → n < 2 ^ 64 → IsDigitCount 16 16 n r → take r out ≡ last_digits 16 r n
-      → Laid at (text_line name (hex_text n)) old end new × (end ≡ at + length name + 18)
+  pub hex_digits : (n : ℕ) → n < 2 ^ 64 → IsDigitCount 16 16 n r → take r out ≡ last_digits 16 r n → take r out ≡ hex_text n
   unfolding hex_text
-  word_line n small f e =
-      let same = sixteen n r small f in
-      let len = length_line name (take r out) in
-      (subst (λ v. Laid at (text_line name v) old end new) (e ∙ ap (λ k. last_digits 16 k n) same) laid, omega (arith, laid.next, counts.1))
+  hex_digits n small f e = e ∙ ap (λ k. last_digits 16 k n) (sixteen n r small f)

@@ -1,3 +1,2 @@
--- `Lines` has words and numbers as text and lines of two columns, `Laid` what a list holds where bytes were put into it.
+-- `Lines` has words and numbers as text and lines of two columns.
 pub mod Lines
-pub mod Laid

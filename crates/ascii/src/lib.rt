@@ -1,62 +1,59 @@
-// Text into a lent list of bytes: lines of a name, a space and a number. Each call answers the place
-// after what it put.
-#![tactic(auto)]
+// Lines of a name, a space and a number, appended to a text of bytes that has a fixed room.
+#![tactic(auto, unfolding(crate::specs::Lines::number_text))]
 
-ghost use Rattle.std.specs.Prelude.{◌+◌, ◌≤◌, true, ◌≡◌, length};
+ghost use Rattle.std.specs.Prelude.{◌+◌, ◌≤◌, true, ◌≡◌, ◌++◌, length};
 ghost use Rattle.std.specs.Float.Ieee.Scale.{finite};
+ghost use Rattle.arrayvec.specs.ArrayVec.{array_vec_len};
 ghost use Rattle.ascii.specs.Lines.{decimal_text, hex_text, number_text, text_line};
-ghost use Rattle.ascii.specs.Laid.{Laid};
+
+use arrayvec::ArrayVec;
 
 // Bytes as they are.
-fn put(text: &mut [u8], at: usize, bytes: &[u8]) -> usize
-    requires { at + length bytes.now ≤ length text.old }
-    ensures { Laid at bytes.now text.old result text.new }
+fn put<const N: usize>(text: &mut ArrayVec<u8, N>, bytes: &[u8])
+    requires { array_vec_len text.old + length bytes.now ≤ N }
+    ensures { text.new.items ≡ text.old.items ++ bytes.now }
 {
-    let n = bytes.len();
-    for i in 0..n {
-        text[at + i] = bytes[i];
-    }
-    at + n
+    text.try_extend_from_slice(bytes).unwrap();
 }
 
-fn line(text: &mut [u8], at: usize, name: &[u8], value: &[u8]) -> usize
-    requires { at + length name.now + length value.now + 2 ≤ length text.old }
-    ensures { Laid at (text_line name.now value.now) text.old result text.new }
+fn line<const N: usize>(text: &mut ArrayVec<u8, N>, name: &str, value: &[u8])
+    requires { array_vec_len text.old + length name.now + length value.now + 2 ≤ N }
+    ensures { text.new.items ≡ text.old.items ++ text_line name.now value.now }
 {
-    let a = put(text, at, name);
-    let b = put(text, a, b" ");
-    let c = put(text, b, value);
-    put(text, c, b"\n")
+    put(text, name.as_bytes());
+    put(text, b" ");
+    put(text, value);
+    put(text, b"\n");
 }
 
 // A count in decimal.
-pub fn count_line(text: &mut [u8], at: usize, name: &[u8], n: u64) -> usize
-    requires { at + length name.now + 22 ≤ length text.old }
-    ensures laid { Laid at (text_line name.now (decimal_text n)) text.old result text.new }
-    ensures upper_bound { result ≤ at + length name.now + 22 }
+pub fn count_line<const N: usize>(text: &mut ArrayVec<u8, N>, name: &str, n: u64)
+    requires { array_vec_len text.old + length name.now + 22 ≤ N }
+    ensures items { text.new.items ≡ text.old.items ++ text_line name.now (decimal_text n) }
+    ensures upper_bound { array_vec_len text.new ≤ array_vec_len text.old + length name.now + 22 }
 {
     let mut digits = [0u8; 20];
     let k = io::decimal(n, &mut digits);
-    line(text, at, name, &digits[..k])
+    line(text, name, &digits[..k]);
 }
 
 // A word in 16 hexadecimal digits.
-fn word_line(text: &mut [u8], at: usize, name: &[u8], n: u64) -> usize
-    requires { at + length name.now + 18 ≤ length text.old }
-    ensures laid { Laid at (text_line name.now (hex_text n)) text.old result text.new }
-    ensures value { result ≡ at + length name.now + 18 }
+fn word_line<const N: usize>(text: &mut ArrayVec<u8, N>, name: &str, n: u64)
+    requires { array_vec_len text.old + length name.now + 18 ≤ N }
+    ensures items { text.new.items ≡ text.old.items ++ text_line name.now (hex_text n) }
+    ensures len { array_vec_len text.new ≡ array_vec_len text.old + length name.now + 18 }
 {
     let mut digits = [0u8; 16];
     let k = io::hex(n, 16, &mut digits);
-    line(text, at, name, &digits[..k])
+    line(text, name, &digits[..k]);
 }
 
 // A finite f64 by its bits.
-pub fn number_line(text: &mut [u8], at: usize, name: &[u8], x: f64) -> usize
-    requires name_in_bounds { at + length name.now + 18 ≤ length text.old }
-    requires x_value { finite x ≡ true }
-    ensures laid { Laid at (text_line name.now (number_text x)) text.old result text.new }
-    ensures value { result ≡ at + length name.now + 18 }
+pub fn number_line<const N: usize>(text: &mut ArrayVec<u8, N>, name: &str, x: f64)
+    requires room { array_vec_len text.old + length name.now + 18 ≤ N }
+    requires finite { finite x ≡ true }
+    ensures items { text.new.items ≡ text.old.items ++ text_line name.now (number_text x) }
+    ensures len { array_vec_len text.new ≡ array_vec_len text.old + length name.now + 18 }
 {
-    word_line(text, at, name, f64::to_bits(x))
+    word_line(text, name, f64::to_bits(x));
 }

@@ -2,6 +2,8 @@
 // refused ones. How the stored lines were made is in docs/DECISIONS.md.
 #![tactic(auto)]
 
+use std::io;
+
 // Four bytes t, x, y, z to a word: all extents with at most 64 sites, t fastest.
 const ACCEPTED: [u32; 19] = [
     0x02_02_02_02,
@@ -49,55 +51,40 @@ const REFUSED: [u32; 20] = [
     0x32_32_32_32,
 ];
 
-fn word(byte: u8) -> u64 {
-    byte as u64
-}
-
-fn case(input: &[u8]) {
-    io::write_all(1, b"input:");
-    for i in 0..input.len() {
-        io::write_all(1, b" ");
-        io::print_decimal(1, word(input[i]));
+fn case(rt: &impl Print, input: &[u8]) -> io::Result<()> {
+    print!(rt; "input:")?;
+    for byte in input {
+        print!(rt; " {byte}")?;
     }
-    io::write_all(1, b"\n");
-    let mut text = [0u8; 320];
-    let k = measurements::columns(input, &mut text);
-    io::write_all(1, &text[..k]);
+    println!(rt)?;
+    let text = measurements::columns(input);
+    rt.write_all(text.as_slice())
 }
 
-fn four(w: u32) {
-    case(&[
-        (w / 0x1_00_00_00) as u8,
-        (w / 0x1_00_00 % 0x1_00) as u8,
-        (w / 0x1_00 % 0x1_00) as u8,
-        (w % 0x1_00) as u8,
-    ]);
+// The bytes of a word, the highest first.
+fn words(rt: &impl Print, words: &[u32]) -> io::Result<()> {
+    for word in words {
+        case(rt, &word.to_be_bytes())?;
+    }
+    Ok(())
 }
 
 // Not four bytes: with four that fit, and where an extent is bad too.
-fn miscounted() {
+fn miscounted(rt: &impl Print) -> io::Result<()> {
     let twos = [2u8; 8];
-    case(&twos[..0]);
-    case(&twos[..1]);
-    case(&twos[..2]);
-    case(&twos[..3]);
-    case(&twos[..5]);
-    case(&[2, 2, 2, 2, 0]);
-    case(&[2, 2, 2, 2, 10]);
-    case(&[3, 2, 2, 2, 2]);
-    case(&twos);
-    case(&[3]);
-    case(&[3, 3, 3, 3, 3]);
+    for count in [0, 1, 2, 3, 5] {
+        case(rt, &twos[..count])?;
+    }
+    case(rt, &[2, 2, 2, 2, 0])?;
+    case(rt, &[2, 2, 2, 2, 10])?;
+    case(rt, &[3, 2, 2, 2, 2])?;
+    case(rt, &twos)?;
+    case(rt, &[3])?;
+    case(rt, &[3, 3, 3, 3, 3])
 }
 
-fn main() {
-    let accepted = ACCEPTED;
-    for i in 0..19usize {
-        four(accepted[i]);
-    }
-    let refused = REFUSED;
-    for i in 0..20usize {
-        four(refused[i]);
-    }
-    miscounted();
+fn main(rt: HostRuntime) -> io::Result<()> {
+    words(&rt, &ACCEPTED)?;
+    words(&rt, &REFUSED)?;
+    miscounted(&rt)
 }

@@ -1,24 +1,23 @@
 // Lines along time, in a field of zeros.
 use crate::Tally;
+use anyhow::Result;
 use mat::Su3;
 
-fn line(t: Tally, links: &[f64], t_len: usize, label: &[u8], row: u64) -> Tally {
-    let got = baryon::time_line([2, 2, 2, 2], 5, t_len, links);
-    t.whole(label, u64::from(rows::row(got)), row)
-}
-
 // A line of no links is the identity, whatever the field.
-fn identity(tally: Tally, links: &[f64]) -> Tally {
+fn identity(t: &mut Tally, links: &[f64]) -> Result<()> {
     let got = baryon::time_line([2, 2, 2, 2], 5, 0, links);
     let (u, site) = got.unwrap_or((Su3::ZERO, 0));
     let far = u64::from(u.dist_sqr(Su3::IDENTITY) != 0.0);
-    let t = tally.whole(b"time length 0 is off the identity ", far, 0);
-    t.whole(b"time length 0 ends at ", site as u64, 5)
+    t.whole("time length 0 is off the identity", far, 0)?;
+    t.whole("time length 0 ends at", site as u64, 5)
 }
 
-pub fn points(tally: Tally) -> Tally {
+pub fn points(t: &mut Tally) -> Result<()> {
     let links = [0.0; 1152];
-    let t = identity(tally, &links);
-    let t = line(t, &links, 64, b"row that refuses time length 64 ", 0);
-    line(t, &links, 65, b"row that refuses time length 65 ", 11)
+    identity(t, &links)?;
+    for (t_len, row) in [(64, 0), (65, 11)] {
+        let line = baryon::time_line([2, 2, 2, 2], 5, t_len, &links);
+        t.row(format_args!("time length {t_len}"), line, row)?;
+    }
+    Ok(())
 }

@@ -7,10 +7,12 @@ mod overrelaxation;
 mod staircases;
 mod walks;
 
+use anyhow::Result;
 use mat::Su3;
 use rng::Rng;
-use rows::row_and_value;
-use sample::hash::pattern;
+use rows::Refusal;
+use sample::hash::{Bits, pattern};
+use std::fmt::Display;
 
 // What splitmix64 gives from the states 0 and 1234567, and xoshiro256++ from 1, 2, 3, 4; where they
 // come from is in docs/DECISIONS.md.
@@ -43,119 +45,108 @@ const XOSHIRO_1234: [u64; 10] = [
     10450023813501588000,
 ];
 
-// What has been compared so far, and how much of it differed.
-#[derive(Clone, Copy)]
+// What has been compared so far, and how much of it differed. Each comparison is a line.
+#[derive(Drop)]
 struct Tally {
+    rt: HostRuntime,
     compared: u32,
     differ: u32,
 }
 
 impl Tally {
     // Ends the line, and counts it.
-    fn count(self, same: bool) -> Tally {
-        let compared = std::num::wrapping_add_u32(self.compared, 1);
+    fn count(&mut self, same: bool) -> Result<()> {
+        self.compared = self.compared.wrapping_add(1);
         if same {
-            io::write_all(1, b"\n");
-            return Tally {
-                compared,
-                differ: self.differ,
-            };
+            println!(self.rt)?;
+        } else {
+            self.differ = self.differ.wrapping_add(1);
+            println!(self.rt; " differs")?;
         }
-        io::write_all(1, b" differs\n");
-        Tally {
-            compared,
-            differ: std::num::wrapping_add_u32(self.differ, 1),
-        }
+        Ok(())
     }
 
-    // A whole number, in decimal.
-    fn whole(self, label: &[u8], got: u64, wanted: u64) -> Tally {
-        io::write_all(1, label);
-        io::print_decimal(1, got);
+    fn whole<D: Display + Drop>(&mut self, label: D, got: u64, wanted: u64) -> Result<()> {
+        print!(self.rt; "{label} {got}")?;
         self.count(got == wanted)
     }
 
-    // An f64 by its bits, as 16 hex digits.
-    fn bits(self, label: &[u8], got: u64, wanted: u64) -> Tally {
-        io::write_all(1, label);
-        io::print_hex(1, got, 16);
-        self.count(got == wanted)
+    // The row that refuses a call, or 0.
+    fn row<T: Copy, D: Display + Drop>(
+        &mut self,
+        call: D,
+        answer: Result<T, Refusal>,
+        wanted: u32,
+    ) -> Result<()> {
+        let row = rows::row(answer);
+        print!(self.rt; "row that refuses {call} {row}")?;
+        self.count(row == wanted)
     }
 
-    // The same of any number; every NaN is one.
-    fn number(self, label: &[u8], got: f64, wanted: f64) -> Tally {
-        self.bits(label, pattern(got), pattern(wanted))
+    // A number by its bits; every NaN is one.
+    fn number(&mut self, label: &str, got: f64, wanted: f64) -> Result<()> {
+        print!(self.rt; "{label} {}", Bits(got))?;
+        self.count(pattern(got) == pattern(wanted))
     }
 
     // The 18 numbers of a matrix, row by row.
-    fn matrix(self, label: &[u8], got: Su3, wanted: &[f64; 18]) -> Tally {
-        let m = got.m;
-        let mut t = self;
-        for k in 0..9usize {
-            let z = m[k];
-            t = t.number(label, z.re, wanted[2 * k]);
-            t = t.number(label, z.im, wanted[2 * k + 1]);
+    fn matrix(&mut self, label: &str, got: Su3, wanted: &[f64; 18]) -> Result<()> {
+        for (z, numbers) in got.m.iter().zip(wanted.chunks_exact(2)) {
+            self.number(label, z.re, numbers[0])?;
+            self.number(label, z.im, numbers[1])?;
         }
-        t
+        Ok(())
     }
 }
 
-fn splitmix64(tally: Tally, seed: u64, wanted: &[u64; 5]) -> Tally {
-    let mut t = tally;
+fn splitmix64(t: &mut Tally, seed: u64, wanted: &[u64; 5]) -> Result<()> {
     let mut x = seed;
     for word in wanted {
-        t = t.whole(b"splitmix64 ", rng::splitmix(&mut x), *word);
+        t.whole("splitmix64", rng::splitmix(&mut x), *word)?;
     }
-    t
+    Ok(())
 }
 
 // Each draw is made of a generator at hand, and of another behind a reference.
-fn xoshiro256(tally: Tally, wanted: &[u64; 10]) -> Tally {
-    let mut t = tally;
+fn xoshiro256(t: &mut Tally, wanted: &[u64; 10]) -> Result<()> {
     let mut own = Rng { s: [1, 2, 3, 4] };
     let lent = &mut Rng { s: [1, 2, 3, 4] };
     for word in wanted {
-        t = t.whole(b"xoshiro256++ ", own.next_u64(), *word);
-        t = t.whole(b"xoshiro256++ by reference ", lent.next_u64(), *word);
+        t.whole("xoshiro256++", own.next_u64(), *word)?;
+        t.whole("xoshiro256++ by reference", lent.next_u64(), *word)?;
     }
-    t
+    Ok(())
 }
 
-// The number of sites, and 0 where the extents are refused.
-fn sites(extents: [usize; 4]) -> u64 {
-    row_and_value(lattice::n_sites(extents), 0).1 as u64
+// The number of sites, or 0 where the extents are refused.
+fn sites(t: &mut Tally) -> Result<()> {
+    let n = lattice::n_sites([16, 2, 2, 2]).unwrap_or(0);
+    t.whole("sites of 16 2 2 2", n as u64, 128)?;
+    t.row("18 2 2 2", lattice::n_sites([18, 2, 2, 2]), 1)
 }
 
-// The row that refuses the extents, and 0 where none does.
-fn refusal(extents: [usize; 4]) -> u64 {
-    row_and_value(lattice::n_sites(extents), 0).0 as u64
-}
-
-fn main() {
-    let t = splitmix64(
-        Tally {
-            compared: 0,
-            differ: 0,
-        },
-        0,
-        &SPLITMIX_0,
-    );
-    let t = splitmix64(t, 1234567, &SPLITMIX_1234567);
-    let t = xoshiro256(t, &XOSHIRO_1234);
-    let top = rng::uniform_of(0xffff_ffff_ffff_ffff);
-    let t = t.bits(
-        b"uniform of all ones ",
-        f64::to_bits(top),
-        0x3fef_ffff_ffff_ffff,
-    );
-    let t = t.whole(b"sites of 16 2 2 2 ", sites([16, 2, 2, 2]), 128);
-    let t = t.whole(b"row that refuses 18 2 2 2 ", refusal([18, 2, 2, 2]), 1);
-    let t = overrelaxation::points(t);
-    let t = staircases::points(t);
-    let t = lines::points(t);
-    let t = walks::points(t);
-    io::print_decimal(1, t.compared as u64);
-    io::write_all(1, b" compared, ");
-    io::print_decimal(1, t.differ as u64);
-    io::write_all(1, b" differ\n");
+fn main(rt: HostRuntime) -> Result<()> {
+    let mut t = Tally {
+        rt,
+        compared: 0,
+        differ: 0,
+    };
+    splitmix64(&mut t, 0, &SPLITMIX_0)?;
+    splitmix64(&mut t, 1234567, &SPLITMIX_1234567)?;
+    xoshiro256(&mut t, &XOSHIRO_1234)?;
+    // 1 - 2^-53
+    let top = rng::uniform_of(u64::MAX);
+    t.number("uniform of all ones", top, 0.9999999999999999)?;
+    sites(&mut t)?;
+    overrelaxation::points(&mut t)?;
+    staircases::points(&mut t)?;
+    lines::points(&mut t)?;
+    walks::points(&mut t)?;
+    let Tally {
+        rt,
+        compared,
+        differ,
+    } = t;
+    println!(rt; "{compared} compared, {differ} differ")?;
+    Ok(())
 }

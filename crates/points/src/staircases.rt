@@ -1,4 +1,5 @@
 use crate::Tally;
+use anyhow::Result;
 use baryon::Step;
 
 // The steps as the digits of a number: twice the axis, and 1 more where it goes forward.
@@ -8,28 +9,27 @@ fn digits(steps: &[Step]) -> u64 {
     })
 }
 
-fn staircase(tally: Tally, d: [i32; 3], label: &[u8], wanted: u64) -> Tally {
+fn staircase(t: &mut Tally, d: [i32; 3], wanted: u64) -> Result<()> {
     let mut steps = [Step::default(); 96];
     let count = baryon::staircase(d, &mut steps).unwrap_or(0);
-    tally.whole(label, digits(&steps[..count]), wanted)
-}
-
-// The row that refuses an offset, and 0 where none does.
-fn refusal(d: [i32; 3]) -> u64 {
-    let mut steps = [Step::default(); 96];
-    u64::from(rows::row(baryon::staircase(d, &mut steps)))
+    let [x, y, z] = d;
+    let label = format_args!("staircase to {x} {y} {z}");
+    t.whole(label, digits(&steps[..count]), wanted)
 }
 
 // Staircases that no theorem computes: two of the worked examples, and four where distances as exact
 // fractions would tie otherwise. Each is laid in a list that is lent.
-pub fn points(tally: Tally) -> Tally {
-    let t = staircase(tally, [2, 1, 0], b"staircase to 2 1 0 ", 353);
-    let t = staircase(t, [0, 0, -2], b"staircase to 0 0 -2 ", 66);
-    let t = staircase(t, [0, 5, 1], b"staircase to 0 5 1 ", 557555);
-    let t = staircase(t, [2, 3, 1], b"staircase to 2 3 1 ", 537535);
-    let t = staircase(t, [3, 1, 2], b"staircase to 3 1 2 ", 375373);
-    let t = staircase(t, [-3, 1, -2], b"staircase to -3 1 -2 ", 265262);
-    let t = t.whole(b"row that refuses 32 -32 32 ", refusal([32, -32, 32]), 0);
-    let t = t.whole(b"row that refuses 33 0 0 ", refusal([33, 0, 0]), 11);
-    t.whole(b"row that refuses 0 0 -33 ", refusal([0, 0, -33]), 11)
+pub fn points(t: &mut Tally) -> Result<()> {
+    staircase(t, [2, 1, 0], 353)?;
+    staircase(t, [0, 0, -2], 66)?;
+    staircase(t, [0, 5, 1], 557555)?;
+    staircase(t, [2, 3, 1], 537535)?;
+    staircase(t, [3, 1, 2], 375373)?;
+    staircase(t, [-3, 1, -2], 265262)?;
+    for (d, row) in [([32, -32, 32], 0), ([33, 0, 0], 11), ([0, 0, -33], 11)] {
+        let [x, y, z] = d;
+        let laid = baryon::staircase(d, &mut [Step::default(); 96]);
+        t.row(format_args!("{x} {y} {z}"), laid, row)?;
+    }
+    Ok(())
 }

@@ -1,9 +1,10 @@
 // A path of five steps, forward and back, in a field whose numbers are whole: handed over as an array
 // of structs, and as bytes.
 use crate::Tally;
+use anyhow::Result;
 use baryon::Step;
 use mat::Su3;
-use rows::{Refusal, row_and_value};
+use rows::Refusal;
 
 const EXTENTS: [usize; 4] = [2, 4, 2, 2];
 
@@ -22,37 +23,19 @@ fn fill(links: &mut [f64; 2304]) {
     }
 }
 
-fn step(axis: u8, forward: bool) -> Step {
-    Step { axis, forward }
+fn compare(t: &mut Tally, got: Result<(Su3, usize), Refusal>) -> Result<()> {
+    t.row("the path", got, 0)?;
+    let (u, site) = got.unwrap_or((Su3::ZERO, 0));
+    t.matrix("path", u, &PRODUCT)?;
+    t.whole("path ends at", site as u64, 25)
 }
 
-// From site 0 by +x, +y, -x, -t and +z.
-fn by_steps(links: &[f64; 2304]) -> Result<(Su3, usize), Refusal> {
-    let steps = [
-        step(1, true),
-        step(2, true),
-        step(1, false),
-        step(0, false),
-        step(3, true),
-    ];
-    baryon::path(EXTENTS, 0, links, &steps)
-}
-
-// The same: a byte is twice the axis, and 1 more where the step goes forward.
-fn by_codes(links: &[f64; 2304]) -> Result<(Su3, usize), Refusal> {
-    baryon::path(EXTENTS, 0, links, &[3u8, 5u8, 2u8, 0u8, 7u8])
-}
-
-fn compare(tally: Tally, got: Result<(Su3, usize), Refusal>) -> Tally {
-    let (row, (u, site)) = row_and_value(got, (Su3::ZERO, 0));
-    let t = tally.whole(b"row that refuses the path ", u64::from(row), 0);
-    let t = t.matrix(b"path ", u, &PRODUCT);
-    t.whole(b"path ends at ", site as u64, 25)
-}
-
-pub fn points(tally: Tally) -> Tally {
+// From site 0 by +x, +y, -x, -t and +z. A byte is twice the axis, and 1 more where the step goes forward.
+pub fn points(t: &mut Tally) -> Result<()> {
     let mut links = [0.0; 2304];
     fill(&mut links);
-    let t = compare(tally, by_steps(&links));
-    compare(t, by_codes(&links))
+    let steps = [(1, true), (2, true), (1, false), (0, false), (3, true)];
+    let steps = steps.map(|(axis, forward)| Step { axis, forward });
+    compare(t, baryon::path(EXTENTS, 0, &links, &steps))?;
+    compare(t, baryon::path(EXTENTS, 0, &links, &[3u8, 5, 2, 0, 7]))
 }

@@ -1,65 +1,46 @@
 // Rows 3, 5 and 12 of lists that are lent beside a cold field of 16 sites, and row 10.
-use crate::{EXTENTS, answer_line};
+use crate::{EXTENTS, line};
+use std::io;
 
-fn average(label: &[u8], links: &[f64]) {
-    answer_line(label, lattice::average_plaquette(EXTENTS, links));
+fn lengths(rt: &impl Print) -> io::Result<()> {
+    let average = |links: &[f64]| lattice::average_plaquette(EXTENTS, links);
+    line(rt, "1151 link numbers", average(&[0.0; 1151]))?;
+    let r = lattice::plaquette(EXTENTS, 16, 0, 1, &[0.0; 1151]);
+    line(rt, "plaquette at site 16 of 1151 link numbers", r)?;
+    line(rt, "1153 link numbers", average(&[0.0; 1153]))?;
+    line(rt, "1152 link numbers", average(&[0.0; 1152]))
 }
 
-fn smear(label: &[u8], rho: f64, links: &[f64], smeared: &mut [f64]) {
-    let r = fields::stout_step(EXTENTS, rho, links, smeared);
-    answer_line(label, r);
+fn smearing(rt: &impl Print, links: &[f64]) -> io::Result<()> {
+    let r = fields::stout_step(EXTENTS, 0.1, links, &mut [7.0; 1151]);
+    line(rt, "1151 smeared numbers", r)?;
+    let r = fields::stout_step(EXTENTS, 0.0 / 0.0, links, &mut [7.0; 1152]);
+    line(rt, "smearing by NaN", r)?;
+    let r = fields::stout_step(EXTENTS, 0.1, links, &mut [7.0; 1152]);
+    line(rt, "smearing by 0.1", r)
 }
 
-fn electric(label: &[u8], axis: usize, links: &[f64], density: &mut [f64]) {
-    let r = fields::electric_sq(EXTENTS, axis, links, density);
-    answer_line(label, r);
+fn densities(rt: &impl Print, links: &[f64]) -> io::Result<()> {
+    let r = fields::electric_sq(EXTENTS, 2, links, &mut [7.0; 17]);
+    line(rt, "17 density numbers", r)?;
+    let r = fields::electric_sq(EXTENTS, 3, links, &mut [7.0; 16]);
+    line(rt, "electric axis 3", r)?;
+    let r = fields::electric_sq(EXTENTS, 2, links, &mut [7.0; 16]);
+    line(rt, "electric axis 2", r)
 }
 
-fn check(label: &[u8], links: &[f64], found: &mut [u32]) {
-    answer_line(label, lattice::link_check(EXTENTS, links, found));
+fn rooms(rt: &impl Print, links: &[f64]) -> io::Result<()> {
+    let r = lattice::link_check(EXTENTS, links, &mut [7; 63]);
+    line(rt, "room for 63 unsound links", r)?;
+    let r = lattice::link_check(EXTENTS, links, &mut [7; 64]);
+    line(rt, "room for 64 unsound links", r)
 }
 
-fn lengths() {
-    let short = [0.0; 1151];
-    average(b"1151 link numbers: ", &short);
-    let r = lattice::plaquette(EXTENTS, 16, 0, 1, &short);
-    answer_line(b"plaquette at site 16 of 1151 link numbers: ", r);
-    let longer = [0.0; 1153];
-    average(b"1153 link numbers: ", &longer);
-    let zeros = [0.0; 1152];
-    average(b"1152 link numbers: ", &zeros);
-}
-
-fn smearing(links: &[f64]) {
-    let mut short = [7.0; 1151];
-    smear(b"1151 smeared numbers: ", 0.1, links, &mut short);
-    let mut smeared = [7.0; 1152];
-    smear(b"smearing by NaN: ", 0.0 / 0.0, links, &mut smeared);
-    let mut smeared = [7.0; 1152];
-    smear(b"smearing by 0.1: ", 0.1, links, &mut smeared);
-}
-
-fn densities(links: &[f64]) {
-    let mut longer = [7.0; 17];
-    electric(b"17 density numbers: ", 2, links, &mut longer);
-    let mut density = [7.0; 16];
-    electric(b"electric axis 3: ", 3, links, &mut density);
-    let mut density = [7.0; 16];
-    electric(b"electric axis 2: ", 2, links, &mut density);
-}
-
-fn rooms(links: &[f64]) {
-    let mut short = [7u32; 63];
-    check(b"room for 63 unsound links: ", links, &mut short);
-    let mut found = [7u32; 64];
-    check(b"room for 64 unsound links: ", links, &mut found);
-}
-
-pub fn lines() {
-    lengths();
+pub fn lines(rt: &impl Print) -> io::Result<()> {
+    lengths(rt)?;
     let mut links = [0.0; 1152];
     let _ = lattice::cold(EXTENTS, 6.0, 0, &mut links);
-    smearing(&links);
-    densities(&links);
-    rooms(&links);
+    smearing(rt, &links)?;
+    densities(rt, &links)?;
+    rooms(rt, &links)
 }

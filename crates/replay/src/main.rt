@@ -3,8 +3,8 @@
 // are held to a sample of its answers, and no Rust is needed. compare/src/sample.rs has the lines.
 #![tactic(auto)]
 
-fn main() {
-    replay_lines::all_lines();
-    replay_fields::all_lines();
-    replay_baryon::all_lines();
+fn main(rt: HostRuntime) -> anyhow::Result<()> {
+    replay_lines::all_lines(&rt)?;
+    replay_fields::all_lines(&rt)?;
+    replay_baryon::all_lines(&rt)
 }

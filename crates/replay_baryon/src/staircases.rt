@@ -1,5 +1,5 @@
+use anyhow::Result;
 use sample::hash::Fnv;
-use sample::print::{hash_line, spaced_decimal};
 
 // A staircase has at most 96 steps, 32 along each axis; a step is a byte.
 
@@ -9,52 +9,50 @@ fn with_staircase(h: Fnv, d: [i32; 3]) -> Fnv {
     let Ok(count) = baryon::staircase(d, &mut codes) else {
         return h;
     };
-    let mut h = h.word(count as u64);
-    for code in &codes[..count] {
-        h = h.word(u64::from(*code));
-    }
-    h
+    h.add(count).add(&codes[..count])
 }
 
-// From -32 to 32, and so on again.
-fn along(n: u32) -> i32 {
-    (n % 65) as i32 - 32
-}
-
-// Offset number n of 65 * 65 * 65, z fastest.
-fn offset(n: u32) -> [i32; 3] {
-    [along(n / 4225), along(n / 65), along(n)]
-}
-
+// Every offset from -32 to 32 along each axis, z fastest.
 fn over_all() -> Fnv {
     let mut h = Fnv::EMPTY;
-    for n in 0..274625u32 {
-        h = with_staircase(h, offset(n));
+    for x in -32..33 {
+        for y in -32..33 {
+            for z in -32..33 {
+                h = with_staircase(h, [x, y, z]);
+            }
+        }
     }
     h
 }
 
-// A staircase step by step; the label has its offset.
-fn line(label: &[u8], d: [i32; 3]) {
+// A staircase step by step.
+fn line(rt: &impl Print, d: [i32; 3]) -> Result<()> {
     let mut codes = [0u8; 96];
     let Ok(count) = baryon::staircase(d, &mut codes) else {
-        return;
+        return Ok(());
     };
-    io::write_all(1, label);
-    spaced_decimal(count as u64);
+    let [x, y, z] = d;
+    print!(rt; "staircase {x} {y} {z} {count}")?;
     for code in &codes[..count] {
-        spaced_decimal(u64::from(*code));
+        print!(rt; " {code}")?;
     }
-    io::write_all(1, b"\n");
+    println!(rt)?;
+    Ok(())
 }
 
-pub fn lines() {
-    hash_line(b"staircases", over_all());
-    line(b"staircase 0 0 0", [0, 0, 0]);
-    line(b"staircase 1 1 0", [1, 1, 0]);
-    line(b"staircase 2 1 0", [2, 1, 0]);
-    line(b"staircase 0 0 -2", [0, 0, -2]);
-    line(b"staircase 0 5 1", [0, 5, 1]);
-    line(b"staircase 2 3 1", [2, 3, 1]);
-    line(b"staircase 3 1 2", [3, 1, 2]);
+pub fn lines(rt: &impl Print) -> Result<()> {
+    println!(rt; "staircases {}", over_all())?;
+    let offsets = [
+        [0, 0, 0],
+        [1, 1, 0],
+        [2, 1, 0],
+        [0, 0, -2],
+        [0, 5, 1],
+        [2, 3, 1],
+        [3, 1, 2],
+    ];
+    for d in offsets {
+        line(rt, d)?;
+    }
+    Ok(())
 }

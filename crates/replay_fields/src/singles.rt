@@ -1,6 +1,3 @@
-use mat::Su3;
-use replay_lines::field_lines::matrix;
-use rows::Refusal;
 use sample::hash::Fnv;
 
 // Hashes over the answers of calls at one site, all sites in turn.
@@ -8,27 +5,18 @@ use sample::hash::Fnv;
 // For each direction mu, each nu: the same one too, which is refused.
 pub fn clover_leaves(extents: [usize; 4], links: &[f64]) -> Fnv {
     let mut h = Fnv::EMPTY;
-    for k in 0..links.len() / 72 * 16 {
-        h = matrix(
-            h,
-            fields::clover_leaves(extents, k / 16, k / 4 % 4, k % 4, links),
-        );
+    for site in 0..links.len() / 72 {
+        for k in 0..16 {
+            h = h.add(fields::clover_leaves(extents, site, k / 4, k % 4, links));
+        }
     }
     h
-}
-
-// Adds six matrices to the hash, and where they are refused their refusal number alone.
-fn strength(h: Fnv, r: Result<[Su3; 6], Refusal>) -> Fnv {
-    match r {
-        Ok(f) => f.iter().fold(h, |h, u| h.matrix(*u)),
-        Err(refusal) => h.short(u32::from(refusal)),
-    }
 }
 
 pub fn field_strengths(extents: [usize; 4], links: &[f64]) -> Fnv {
     let mut h = Fnv::EMPTY;
     for site in 0..links.len() / 72 {
-        h = strength(h, fields::field_strength_at(extents, site, links));
+        h = h.add(fields::field_strength_at(extents, site, links));
     }
     h
 }
@@ -36,8 +24,10 @@ pub fn field_strengths(extents: [usize; 4], links: &[f64]) -> Fnv {
 // Site by site, the four directions of each.
 pub fn stout_links(extents: [usize; 4], links: &[f64]) -> Fnv {
     let mut h = Fnv::EMPTY;
-    for k in 0..links.len() / 18 {
-        h = matrix(h, fields::stout_link(extents, k / 4, k % 4, 0.1, links));
+    for site in 0..links.len() / 72 {
+        for mu in 0..4 {
+            h = h.add(fields::stout_link(extents, site, mu, 0.1, links));
+        }
     }
     h
 }

@@ -1,131 +1,77 @@
+use anyhow::Result;
 use mat::Su3;
 use quat::{Mat2, Quat};
 use rows::row_and_value;
-use sample::hash::Fnv;
+use sample::hash::{Fnv, Hashed};
 use sample::inputs::{Pair, Set, block, pair_at, quaternion};
-use sample::print::hash_line;
 
-// The calls have the numbers of their lines, from 0. These seven answer a matrix.
-fn combined(call: u32, p: Pair) -> Su3 {
-    let a = p.a;
-    let b = p.b;
-    match call {
-        0 => a * b,
-        1 => a.mul_dag(b),
-        2 => a.dag_mul(b),
-        3 => a + b,
-        4 => a - b,
-        5 => a.dagger(),
-        _ => {
-            let m = b.m;
-            let first = m[0];
-            a.scale(first.re)
-        }
-    }
-}
-
-fn derived(call: u32, h: Fnv, p: Pair) -> Fnv {
-    let a = p.a;
-    match call {
-        7 => h.complex(a.trace()),
-        8 => h.number(a.re_tr()),
-        9 => h.number(a.dist_sqr(p.b)),
-        10 => h.complex(a.det()),
-        11 => h.matrix(a.reunitarize()),
-        12 => h.matrix(a.traceless_antihermitian()),
-        _ => h.matrix(Su3::exp_antihermitian(a)),
-    }
-}
-
-fn subgroups(call: u32, h: Fnv, p: Pair) -> Fnv {
-    let a = p.a;
-    if call == 14 {
-        let (row, w) = row_and_value(quat::sub_block(a, p.subgroup), Mat2::ZERO);
-        return h.short(row).block(w);
-    }
-    let (row, u) = row_and_value(quat::left_mul_sub(a, p.subgroup, block(p.b)), Su3::ZERO);
-    h.short(row).matrix(u)
-}
-
-fn quaternions(call: u32, h: Fnv, p: Pair) -> Fnv {
-    let a = quaternion(p.a);
-    match call {
-        16 => h.quaternion(Quat::project(block(p.a))),
-        17 => h.number(a.norm()),
-        18 => h.quaternion(a.conj()),
-        19 => h.quaternion(a.mul(quaternion(p.b))),
-        _ => h.block(a.to_mat()),
-    }
-}
-
-fn overrelaxed(h: Fnv, p: Pair) -> Fnv {
-    let (row, u) = row_and_value(sweep::update_link(p.a, p.b), Su3::ZERO);
-    h.short(row).matrix(u)
-}
-
-// Adds the answer of a call to the hash.
-fn answer(call: u32, h: Fnv, p: Pair) -> Fnv {
-    if call < 7 {
-        return h.matrix(combined(call, p));
-    }
-    if call < 14 {
-        return derived(call, h, p);
-    }
-    if call < 16 {
-        return subgroups(call, h, p);
-    }
-    if call < 21 {
-        return quaternions(call, h, p);
-    }
-    overrelaxed(h, p)
-}
-
-fn over_pairs(set: Set, call: u32) -> Fnv {
+// A line for a call: the hash of its answers to 400 pairs.
+fn line<T: Hashed, F: Fn(Pair) -> T>(rt: &impl Print, set: Set, name: &str, call: F) -> Result<()>
+    requires { F.IsAlwaysCallable call }
+{
     let mut h = Fnv::EMPTY;
     for i in 0..400u64 {
-        h = answer(call, h, pair_at(set, i));
+        h = h.add(call(pair_at(set, i)));
     }
-    h
+    println!(rt; "{set} {name} {h}")?;
+    Ok(())
 }
 
-fn line(set: Set, call: u32, name: &[u8]) {
-    match set {
-        Set::Raw => {
-            io::write_all(1, b"raw ");
-        }
-        Set::Units => {
-            io::write_all(1, b"units ");
-        }
-    }
-    hash_line(name, over_pairs(set, call));
+fn matrices(rt: &impl Print, set: Set) -> Result<()> {
+    line(rt, set, "mul", |p| p.a * p.b)?;
+    line(rt, set, "mul_dag", |p| p.a.mul_dag(p.b))?;
+    line(rt, set, "dag_mul", |p| p.a.dag_mul(p.b))?;
+    line(rt, set, "add", |p| p.a + p.b)?;
+    line(rt, set, "sub", |p| p.a - p.b)?;
+    line(rt, set, "dagger", |p| p.a.dagger())?;
+    line(rt, set, "scale", |p| p.a.scale(p.b.m[0].re))
 }
 
-// A line for each call on matrices: the hash of its answers to 400 pairs.
-pub fn lines(set: Set) {
-    line(set, 0, b"mul");
-    line(set, 1, b"mul_dag");
-    line(set, 2, b"dag_mul");
-    line(set, 3, b"add");
-    line(set, 4, b"sub");
-    line(set, 5, b"dagger");
-    line(set, 6, b"scale");
-    line(set, 7, b"trace");
-    line(set, 8, b"re_tr");
-    line(set, 9, b"dist_sqr");
-    line(set, 10, b"det");
-    line(set, 11, b"reunitarize");
-    line(set, 12, b"traceless_antihermitian");
-    line(set, 13, b"exp_antihermitian");
-    line(set, 14, b"sub_block");
-    line(set, 15, b"left_mul_sub");
-    line(set, 16, b"quat_project");
-    line(set, 17, b"quat_norm");
-    line(set, 18, b"quat_conj");
-    line(set, 19, b"quat_mul");
-    line(set, 20, b"quat_to_mat");
+fn derived(rt: &impl Print, set: Set) -> Result<()> {
+    line(rt, set, "trace", |p| p.a.trace())?;
+    line(rt, set, "re_tr", |p| p.a.re_tr())?;
+    line(rt, set, "dist_sqr", |p| p.a.dist_sqr(p.b))?;
+    line(rt, set, "det", |p| p.a.det())?;
+    line(rt, set, "reunitarize", |p| p.a.reunitarize())?;
+    line(rt, set, "traceless_antihermitian", |p| {
+        p.a.traceless_antihermitian()
+    })?;
+    line(rt, set, "exp_antihermitian", |p| {
+        Su3::exp_antihermitian(p.a)
+    })
+}
+
+// A row and a value each: 0, or zeros.
+fn subgroups(rt: &impl Print, set: Set) -> Result<()> {
+    line(rt, set, "sub_block", |p| {
+        row_and_value(quat::sub_block(p.a, p.subgroup), Mat2::ZERO)
+    })?;
+    line(rt, set, "left_mul_sub", |p| {
+        row_and_value(quat::left_mul_sub(p.a, p.subgroup, block(p.b)), Su3::ZERO)
+    })
+}
+
+fn quaternions(rt: &impl Print, set: Set) -> Result<()> {
+    line(rt, set, "quat_project", |p| Quat::project(block(p.a)))?;
+    line(rt, set, "quat_norm", |p| quaternion(p.a).norm())?;
+    line(rt, set, "quat_conj", |p| quaternion(p.a).conj())?;
+    line(rt, set, "quat_mul", |p| {
+        quaternion(p.a).mul(quaternion(p.b))
+    })?;
+    line(rt, set, "quat_to_mat", |p| quaternion(p.a).to_mat())
+}
+
+// A line for each call on matrices.
+pub fn lines(rt: &impl Print, set: Set) -> Result<()> {
+    matrices(rt, set)?;
+    derived(rt, set)?;
+    subgroups(rt, set)?;
+    quaternions(rt, set)
 }
 
 // The same for the update of a link a with the staple b.
-pub fn update_line(set: Set) {
-    line(set, 21, b"update_link");
+pub fn update_line(rt: &impl Print, set: Set) -> Result<()> {
+    line(rt, set, "update_link", |p| {
+        row_and_value(sweep::update_link(p.a, p.b), Su3::ZERO)
+    })
 }

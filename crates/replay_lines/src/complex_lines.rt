@@ -1,6 +1,6 @@
+use anyhow::Result;
 use complex::C64;
-use sample::hash::Fnv;
-use sample::print::hash_line;
+use sample::hash::{Fnv, Hashed};
 
 // Number k of the sixteen, over and over.
 fn number(k: u64) -> f64 {
@@ -25,56 +25,35 @@ fn number(k: u64) -> f64 {
     }
 }
 
-// The calls have the numbers of their lines, from 0. Adds the answer of one to the hash.
-fn answer(call: u32, h: Fnv, a: C64, b: C64) -> Fnv {
-    match call {
-        0 => h.complex(C64::new(a.re, a.im)),
-        1 => h.complex(a.conj()),
-        2 => h.number(a.norm_sqr()),
-        3 => h.complex(a.scale(b.re)),
-        4 => h.complex(a + b),
-        5 => h.complex(a - b),
-        6 => h.complex(a * b),
-        _ => h.complex(-a),
-    }
-}
-
-// Every four of the numbers.
-fn over_fours(call: u32) -> Fnv {
+// A line for a call: the hash of its answers to every four of the numbers.
+fn line<T: Hashed, F: Fn(C64, C64) -> T>(rt: &impl Print, name: &str, call: F) -> Result<()>
+    requires { F.IsAlwaysCallable call }
+{
     let mut h = Fnv::EMPTY;
     for i in 0..65536u64 {
-        let a = C64 {
-            re: number(i / 4096),
-            im: number(i / 256),
-        };
-        let b = C64 {
-            re: number(i / 16),
-            im: number(i),
-        };
-        h = answer(call, h, a, b);
+        let a = C64::new(number(i / 4096), number(i / 256));
+        let b = C64::new(number(i / 16), number(i));
+        h = h.add(call(a, b));
     }
-    h
+    println!(rt; "complex {name} {h}")?;
+    Ok(())
 }
 
-fn line(call: u32, name: &[u8]) {
-    io::write_all(1, b"complex ");
-    hash_line(name, over_fours(call));
-}
-
-fn constants_line() {
-    let h = Fnv::EMPTY.complex(C64::ZERO).complex(C64::ONE);
-    hash_line(b"complex constants", h.complex(C64::I));
+fn constants_line(rt: &impl Print) -> Result<()> {
+    let h = Fnv::of(C64::ZERO).add(C64::ONE).add(C64::I);
+    println!(rt; "complex constants {h}")?;
+    Ok(())
 }
 
 // A line for the constants, and one for each call on complex numbers.
-pub fn lines() {
-    constants_line();
-    line(0, b"new");
-    line(1, b"conj");
-    line(2, b"norm_sqr");
-    line(3, b"scale");
-    line(4, b"add");
-    line(5, b"sub");
-    line(6, b"mul");
-    line(7, b"neg");
+pub fn lines(rt: &impl Print) -> Result<()> {
+    constants_line(rt)?;
+    line(rt, "new", |a, _| C64::new(a.re, a.im))?;
+    line(rt, "conj", |a, _| a.conj())?;
+    line(rt, "norm_sqr", |a, _| a.norm_sqr())?;
+    line(rt, "scale", |a, b| a.scale(b.re))?;
+    line(rt, "add", |a, b| a + b)?;
+    line(rt, "sub", |a, b| a - b)?;
+    line(rt, "mul", |a, b| a * b)?;
+    line(rt, "neg", |a, _| -a)
 }

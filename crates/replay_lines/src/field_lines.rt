@@ -1,10 +1,11 @@
+use anyhow::Result;
 use complex::C64;
 use lattice::Plan;
-use mat::Su3;
-use rows::{Number, Refusal, row_and_value};
-use sample::hash::Fnv;
+use rows::{Refusal, row_and_value};
+use sample::hash::{Bits, Fnv};
 use sample::inputs::{Kind, link};
-use sample::print::{hash_line, spaced_decimal, spaced_hex, spaced_number};
+
+const PLANES: [(usize, usize); 6] = [(0, 1), (0, 2), (0, 3), (1, 2), (1, 3), (2, 3)];
 
 // Makes every link of a field by itself: link n is the one of direction n / sites at site n % sites.
 pub fn fill(kind: Kind, links: &mut [f64]) {
@@ -18,141 +19,74 @@ pub fn fill(kind: Kind, links: &mut [f64]) {
     }
 }
 
-pub fn over_links(links: &[f64]) -> Fnv {
-    let mut h = Fnv::EMPTY;
-    for k in 0..links.len() {
-        h = h.number(links[k]);
-    }
-    h
-}
-
-// Goes on with a refusal number, and the list that its call fills, as it is now.
-pub fn row_and_list(row: u32, list: &[f64]) {
-    spaced_decimal(row as u64);
-    let h = over_links(list);
-    spaced_hex(h.state);
-}
-
-// Adds a matrix to the hash, and where it is refused its refusal number alone.
-pub fn matrix(h: Fnv, r: Result<Su3, Refusal>) -> Fnv {
-    match r {
-        Ok(u) => h.matrix(u),
-        Err(refusal) => h.short(u32::from(refusal)),
-    }
-}
-
-fn plaquettes_at(h: Fnv, extents: [usize; 4], site: usize, links: &[f64]) -> Fnv {
-    let h = matrix(h, lattice::plaquette(extents, site, 0, 1, links));
-    let h = matrix(h, lattice::plaquette(extents, site, 0, 2, links));
-    let h = matrix(h, lattice::plaquette(extents, site, 0, 3, links));
-    let h = matrix(h, lattice::plaquette(extents, site, 1, 2, links));
-    let h = matrix(h, lattice::plaquette(extents, site, 1, 3, links));
-    matrix(h, lattice::plaquette(extents, site, 2, 3, links))
-}
-
 fn plaquettes(extents: [usize; 4], links: &[f64]) -> Fnv {
     let mut h = Fnv::EMPTY;
     for site in 0..links.len() / 72 {
-        h = plaquettes_at(h, extents, site, links);
+        for (mu, nu) in PLANES {
+            h = h.add(lattice::plaquette(extents, site, mu, nu, links));
+        }
     }
     h
-}
-
-fn staples_at(h: Fnv, plan: Plan, site: usize, links: &[f64]) -> Fnv {
-    let h = matrix(h, lattice::staple(plan, site, 0, links));
-    let h = matrix(h, lattice::staple(plan, site, 1, links));
-    let h = matrix(h, lattice::staple(plan, site, 2, links));
-    matrix(h, lattice::staple(plan, site, 3, links))
 }
 
 fn staples(plan: Plan, links: &[f64]) -> Fnv {
     let mut h = Fnv::EMPTY;
     for site in 0..links.len() / 72 {
-        h = staples_at(h, plan, site, links);
+        for mu in 0..4 {
+            h = h.add(lattice::staple(plan, site, mu, links));
+        }
     }
     h
 }
 
-// A refusal number, or 0, and a number, or +0.
-pub fn number_line(label: &[u8], r: Result<f64, Refusal>) {
+// A refusal's row, or 0, and a number, or +0.
+pub fn number_line(rt: &impl Print, label: &str, r: Result<f64, Refusal>) -> Result<()> {
     let (row, x) = row_and_value(r, 0.0);
-    io::write_all(1, label);
-    spaced_decimal(row as u64);
-    spaced_number(x);
-    io::write_all(1, b"\n");
+    let x = Bits(x);
+    println!(rt; "{label} {row} {x}")?;
+    Ok(())
 }
 
-pub fn number_answer_line(label: &[u8], r: Number) {
-    io::write_all(1, label);
-    match r {
-        Number::Value(x) => {
-            spaced_decimal(0);
-            spaced_number(x);
-        }
-        Number::Refused(row) => {
-            spaced_decimal(row as u64);
-            spaced_number(0.0);
-        }
-    }
-    io::write_all(1, b"\n");
-}
-
-fn loop_line(extents: [usize; 4], links: &[f64]) {
+fn loop_line(rt: &impl Print, extents: [usize; 4], links: &[f64]) -> Result<()> {
     let (row, z) = row_and_value(lattice::polyakov_loop(extents, links), C64::ZERO);
-    io::write_all(1, b"polyakov_loop");
-    spaced_decimal(row as u64);
-    spaced_number(z.re);
-    spaced_number(z.im);
-    io::write_all(1, b"\n");
-}
-
-fn over_entries(found: &[u32]) -> Fnv {
-    let mut h = Fnv::EMPTY;
-    for k in 0..found.len() {
-        h = h.short(found[k]);
-    }
-    h
+    let re = Bits(z.re);
+    let im = Bits(z.im);
+    println!(rt; "polyakov_loop {row} {re} {im}")?;
+    Ok(())
 }
 
 // The list has room for every link of the largest field.
-fn check_line(extents: [usize; 4], links: &[f64]) {
+fn check_line(rt: &impl Print, extents: [usize; 4], links: &[f64]) -> Result<()> {
     let mut found = [0u32; 384];
     let Ok(count) = lattice::link_check(extents, links, &mut found) else {
-        return;
+        return Ok(());
     };
-    if count > 384 {
-        return;
+    let mut h = Fnv::EMPTY;
+    for n in found.iter().take(count) {
+        h = h.add(*n);
     }
-    io::write_all(1, b"link_check");
-    spaced_decimal(count as u64);
-    let h = over_entries(&found[..count]);
-    spaced_hex(h.state);
-    io::write_all(1, b"\n");
+    println!(rt; "link_check {count} {h}")?;
+    Ok(())
 }
 
-// What the calls answer of a field.
-fn answers(extents: [usize; 4], name: &[u8], links: &[f64]) {
+// The lines of a field of a kind, which is made here in a list of its length.
+pub fn lines(rt: &impl Print, extents: [usize; 4], kind: Kind, links: &mut [f64]) -> Result<()> {
+    fill(kind, links);
+    println!(rt; "field {kind} {}", Fnv::of(&*links))?;
     let plan = Plan {
         extents,
         coupling: 5.75,
         seed: 0,
         pass: 0,
     };
-    io::write_all(1, b"field ");
-    hash_line(name, over_links(links));
     number_line(
-        b"average_plaquette",
+        rt,
+        "average_plaquette",
         lattice::average_plaquette(extents, links),
-    );
-    number_line(b"action", lattice::action(plan, links));
-    loop_line(extents, links);
-    hash_line(b"plaquettes", plaquettes(extents, links));
-    hash_line(b"staples", staples(plan, links));
-    check_line(extents, links);
-}
-
-// The lines of a field of a kind, which is made here in a list of its length.
-pub fn lines(extents: [usize; 4], kind: Kind, name: &[u8], links: &mut [f64]) {
-    fill(kind, links);
-    answers(extents, name, links);
+    )?;
+    number_line(rt, "action", lattice::action(plan, links))?;
+    loop_line(rt, extents, links)?;
+    println!(rt; "plaquettes {}", plaquettes(extents, links))?;
+    println!(rt; "staples {}", staples(plan, links))?;
+    check_line(rt, extents, links)
 }

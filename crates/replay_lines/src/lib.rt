@@ -7,40 +7,39 @@ pub mod field_lines;
 mod site_lines;
 mod sweep_lines;
 
-use sample::inputs::{Kind, Set};
+use anyhow::Result;
+use sample::inputs::{KINDS, Kind, Set};
 
 // The list is 72 numbers for each site.
-fn lattice_lines(extents: [usize; 4], links: &mut [f64]) {
-    site_lines::lines(extents);
-    field_lines::lines(extents, Kind::Cold, b"cold", links);
-    field_lines::lines(extents, Kind::Raw, b"raw", links);
-    field_lines::lines(extents, Kind::Group, b"group", links);
-    field_lines::lines(extents, Kind::Smooth, b"smooth", links);
-    field_lines::lines(extents, Kind::Damaged, b"damaged", links);
-    field_lines::lines(extents, Kind::Huge, b"huge", links);
-    field_lines::lines(extents, Kind::Units, b"units", links);
+fn lattice_lines(rt: &impl Print, extents: [usize; 4], links: &mut [f64]) -> Result<()> {
+    site_lines::lines(rt, extents)?;
+    for kind in KINDS {
+        field_lines::lines(rt, extents, kind, links)?;
+    }
+    Ok(())
 }
 
 // Overrelaxation, one update and whole sweeps.
-fn sweep_part() {
-    arithmetic::update_line(Set::Raw);
-    arithmetic::update_line(Set::Units);
-    sweep_lines::bound_lines();
+fn sweep_part(rt: &impl Print) -> Result<()> {
+    arithmetic::update_line(rt, Set::Raw)?;
+    arithmetic::update_line(rt, Set::Units)?;
+    sweep_lines::bound_lines(rt)?;
     let mut links = [0.0; 2304];
-    sweep_lines::lines(Kind::Group, b"group", &mut links);
-    sweep_lines::lines(Kind::Damaged, b"damaged", &mut links);
-    sweep_lines::lines(Kind::Units, b"units", &mut links);
+    for kind in [Kind::Group, Kind::Damaged, Kind::Units] {
+        sweep_lines::lines(rt, kind, &mut links)?;
+    }
+    Ok(())
 }
 
-pub fn all_lines() {
-    complex_lines::lines();
-    arithmetic::lines(Set::Raw);
-    arithmetic::lines(Set::Units);
+pub fn all_lines(rt: &impl Print) -> Result<()> {
+    complex_lines::lines(rt)?;
+    arithmetic::lines(rt, Set::Raw)?;
+    arithmetic::lines(rt, Set::Units)?;
     let mut links = [0.0; 1152];
-    lattice_lines([2, 2, 2, 2], &mut links);
+    lattice_lines(rt, [2, 2, 2, 2], &mut links)?;
     let mut links = [0.0; 2304];
-    lattice_lines([4, 2, 2, 2], &mut links);
+    lattice_lines(rt, [4, 2, 2, 2], &mut links)?;
     let mut links = [0.0; 6912];
-    lattice_lines([2, 6, 4, 2], &mut links);
-    sweep_part();
+    lattice_lines(rt, [2, 6, 4, 2], &mut links)?;
+    sweep_part(rt)
 }

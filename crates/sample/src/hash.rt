@@ -1,6 +1,8 @@
 use complex::C64;
 use mat::Su3;
 use quat::{Mat2, Quat};
+use rows::Refusal;
+use std::fmt;
 
 // The pattern of an f64, and of every NaN the same one.
 pub fn pattern(x: f64) -> u64 {
@@ -11,10 +13,28 @@ pub fn pattern(x: f64) -> u64 {
     }
 }
 
-// FNV-1a, 64 bits, over words, the eight bytes of each from the lowest.
+// An f64 that is printed by its pattern, as 16 hex digits.
+#[derive(Clone, Copy)]
+pub struct Bits(pub f64);
+
+impl fmt::Display for Bits {
+    fn fmt<W: fmt::Write>(&self, f: &mut fmt::Formatter<W>) -> fmt::Result {
+        let pattern = pattern(self.0);
+        write!(f, "{pattern:016x}")
+    }
+}
+
+// FNV-1a, 64 bits, over words, the eight bytes of each from the lowest. It is printed as 16 hex digits.
 #[derive(Clone, Copy)]
 pub struct Fnv {
-    pub state: u64,
+    state: u64,
+}
+
+impl fmt::Display for Fnv {
+    fn fmt<W: fmt::Write>(&self, f: &mut fmt::Formatter<W>) -> fmt::Result {
+        let state = self.state;
+        write!(f, "{state:016x}")
+    }
 }
 
 impl Fnv {
@@ -22,7 +42,12 @@ impl Fnv {
         state: 0xcbf2_9ce4_8422_2325,
     };
 
-    pub fn word(self, word: u64) -> Self {
+    // The hash of one answer.
+    pub fn of<T: Hashed>(answer: T) -> Self {
+        Self::EMPTY.add(answer)
+    }
+
+    fn word(self, word: u64) -> Self {
         let mut state = self.state;
         let mut rest = word;
         for _ in 0..8u32 {
@@ -32,36 +57,118 @@ impl Fnv {
         Self { state }
     }
 
-    // A word of 32 bits, as one of 64.
-    pub fn short(self, word: u32) -> Self {
-        self.word(word as u64)
+    pub fn add<T: Hashed>(self, answer: T) -> Self {
+        answer.add_to(self)
     }
+}
 
-    pub fn number(self, x: f64) -> Self {
-        self.word(pattern(x))
-    }
+// What a call leaves that fills a list: the row that refuses it, or 0, and the list as it is then.
+#[derive(Clone, Copy)]
+pub struct Filled {
+    row: u32,
+    list: Fnv,
+}
 
-    pub fn complex(self, z: C64) -> Self {
-        self.number(z.re).number(z.im)
-    }
-
-    pub fn matrix(self, u: Su3) -> Self {
-        let m = u.m;
-        let mut h = self;
-        for k in 0..9 {
-            h = h.complex(m[k]);
+impl Filled {
+    pub fn of<T: Copy>(answer: Result<T, Refusal>, list: &[f64]) -> Self {
+        Self {
+            row: rows::row(answer),
+            list: Fnv::of(list),
         }
-        h
     }
+}
 
-    pub fn block(self, x: Mat2) -> Self {
-        self.complex(x.m00)
-            .complex(x.m01)
-            .complex(x.m10)
-            .complex(x.m11)
+impl fmt::Display for Filled {
+    fn fmt<W: fmt::Write>(&self, f: &mut fmt::Formatter<W>) -> fmt::Result {
+        let Filled { row, list } = *self;
+        write!(f, "{row} {list}")
     }
+}
 
-    pub fn quaternion(self, q: Quat) -> Self {
-        self.number(q.a0).number(q.a1).number(q.a2).number(q.a3)
+// What a call answers, and how it is added to a hash.
+pub trait Hashed {
+    fn add_to(self, h: Fnv) -> Fnv;
+}
+
+impl Hashed for u64 {
+    fn add_to(self, h: Fnv) -> Fnv {
+        h.word(self)
+    }
+}
+
+impl Hashed for u32 {
+    fn add_to(self, h: Fnv) -> Fnv {
+        h.word(u64::from(self))
+    }
+}
+
+impl Hashed for u8 {
+    fn add_to(self, h: Fnv) -> Fnv {
+        h.word(u64::from(self))
+    }
+}
+
+impl Hashed for usize {
+    fn add_to(self, h: Fnv) -> Fnv {
+        h.word(self as u64)
+    }
+}
+
+impl Hashed for f64 {
+    fn add_to(self, h: Fnv) -> Fnv {
+        h.word(pattern(self))
+    }
+}
+
+impl Hashed for C64 {
+    fn add_to(self, h: Fnv) -> Fnv {
+        h.add(self.re).add(self.im)
+    }
+}
+
+impl Hashed for Su3 {
+    fn add_to(self, h: Fnv) -> Fnv {
+        h.add(self.m)
+    }
+}
+
+impl Hashed for Mat2 {
+    fn add_to(self, h: Fnv) -> Fnv {
+        h.add(self.m00).add(self.m01).add(self.m10).add(self.m11)
+    }
+}
+
+impl Hashed for Quat {
+    fn add_to(self, h: Fnv) -> Fnv {
+        h.add(self.a0).add(self.a1).add(self.a2).add(self.a3)
+    }
+}
+
+impl<A: Hashed, B: Hashed> Hashed for (A, B) {
+    fn add_to(self, h: Fnv) -> Fnv {
+        h.add(self.0).add(self.1)
+    }
+}
+
+// The elements in their order.
+impl<T: Hashed + Copy, const N: usize> Hashed for [T; N] {
+    fn add_to(self, h: Fnv) -> Fnv {
+        h.add(self.as_slice())
+    }
+}
+
+impl<T: Hashed + Copy> Hashed for &[T] {
+    fn add_to(self, h: Fnv) -> Fnv {
+        self.iter().fold(h, |h, x| h.add(*x))
+    }
+}
+
+// Where the call is refused, its row alone.
+impl<T: Hashed> Hashed for Result<T, Refusal> {
+    fn add_to(self, h: Fnv) -> Fnv {
+        match self {
+            Ok(answer) => h.add(answer),
+            Err(refusal) => h.add(u32::from(refusal)),
+        }
     }
 }

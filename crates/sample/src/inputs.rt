@@ -2,6 +2,7 @@ use complex::C64;
 use mat::Su3;
 use quat::{Mat2, Quat};
 use rng::Rng;
+use std::fmt;
 
 pub const SEED: u64 = 20261115;
 
@@ -12,8 +13,18 @@ pub enum Set {
     Units,
 }
 
+// Its name in a line.
+impl fmt::Display for Set {
+    fn fmt<W: fmt::Write>(&self, f: &mut fmt::Formatter<W>) -> fmt::Result {
+        f.write_str(match self {
+            Set::Raw => "raw",
+            Set::Units => "units",
+        })
+    }
+}
+
 // What the links of a field are.
-#[derive(Clone, Copy)]
+#[derive(Clone, Copy, PartialEq, Eq)]
 pub enum Kind {
     Cold,
     Raw,
@@ -22,6 +33,31 @@ pub enum Kind {
     Damaged,
     Huge,
     Units,
+}
+
+pub const KINDS: [Kind; 7] = [
+    Kind::Cold,
+    Kind::Raw,
+    Kind::Group,
+    Kind::Smooth,
+    Kind::Damaged,
+    Kind::Huge,
+    Kind::Units,
+];
+
+// Its name in a line.
+impl fmt::Display for Kind {
+    fn fmt<W: fmt::Write>(&self, f: &mut fmt::Formatter<W>) -> fmt::Result {
+        f.write_str(match self {
+            Kind::Cold => "cold",
+            Kind::Raw => "raw",
+            Kind::Group => "group",
+            Kind::Smooth => "smooth",
+            Kind::Damaged => "damaged",
+            Kind::Huge => "huge",
+            Kind::Units => "units",
+        })
+    }
 }
 
 // What the calls on matrices take.

@@ -1,7 +1,6 @@
 // What replay makes and prints: the inputs that compare/ gives the unchanged Rust, made again, and
-// the hashes and words of its lines.
+// the hashes and patterns of its lines.
 #![tactic(auto)]
 
 pub mod hash;
 pub mod inputs;
-pub mod print;

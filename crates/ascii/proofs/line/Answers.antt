@@ -1,12 +1,5 @@
-use Prim.Native.Nat.{◌≤◌}
-use native.Mathlib.Omega.{arith}
-use lib.ListN.{length}
-use Rattle.ascii.specs.Lines.{text_line}
-use Rattle.ascii.proofs.Laws.{then}
+use Rattle.ascii.proofs.Laws.{line_after}
 use Rattle.ascii.proofs.line.Goals as goal
 
 pub returns : goal.returns
-unfolding text_line
-returns c =
-    let fits : c.args.at ≤ length c.args.text.now = omega arith in
-    then fits (then fits (then fits c.put-a.ensures c.put-b.ensures) c.put-c.ensures) c.put.ensures
+returns g c = line_after _ _ _ c.as_bytes.ensures.value c.put.ensures c.put-2.ensures c.put-3.ensures c.put-4.ensures
