@@ -16,13 +16,7 @@ use stairs::Stairs;
 
 // Writes the loops of the slice t, one for each place, along three staircases.
 #[tactic(auto, unfolding(folds::specs::Folds::fill))]
-fn slice_loops(
-    loops: &mut [f64],
-    lattice: &Su3Lattice,
-    t: usize,
-    paths: &[Stairs; 3],
-    t_len: usize,
-)
+fn slice_loops(loops: &mut [f64], lattice: &Su3Lattice, t: usize, paths: &[Stairs; 3], t_len: usize)
     requires { Slice loops.old lattice.now.extents.d t }
     ensures { loops.new ≡ map (λ k. loop_of lattice.now.extents.d (link_of lattice.now.extents.d lattice.now.links.now) t_len (t + get_or lattice.now.extents.d 0 0 * k) paths.now) (range (places lattice.now.extents.d)) }
 {

@@ -33,9 +33,10 @@ loop-t-preserved c =
     let e = q.lattice.now.extents in
     let loops = filled (goal.at.loop-t-preserved c).After-slice_loops in
     let t = c.loop-t in
-    let some : 0 < get_or e.d 0 0 = omega (arith, c.loop-t-test.true) in
-    (loops_next e.d _ q.w t.t t.invariant.0 loops c.total-sum.ensures,
-      grid_next e.d _ q.densities.now.numbers.now q.t_len q.densities.now.count q.grid.now e.fits t.t (t.auto.grid ∙ c.requires.cells) loops (mod-lt _ some) t.invariant.1 (rw c.requires.same at c.slice_cells.ensures))
+    let some : 0 < get_or e.d 0 0 = omega (arith, c.loop-t-test.true) in (
+      loops_next e.d _ q.w t.t t.invariant.0 loops c.total-sum.ensures,
+      grid_next e.d _ q.densities.now.numbers.now q.t_len q.densities.now.count q.grid.now e.fits t.t (t.auto.grid ∙ c.requires.cells) loops (mod-lt _ some) t.invariant.1 (rw c.requires.same at c.slice_cells.ensures),
+    )
 
 pub returns : goal.returns
 returns c =

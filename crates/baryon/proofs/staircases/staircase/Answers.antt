@@ -24,9 +24,11 @@ loop-i-preserved g c =
     let len = ap length (c.as_slice-all.ensures.steps ∙ c.staircase-stairs.ensures) ∙ length-staircase c.args.d in
     let all = c.as_slice-all.result.now in
     let i = c.loop-i.i in
-    record { laid = λ code h.
-      let axis : (get_or all i (record { axis = 0; forward = false })).axis < 4 = c.as_slice-all.ensures.axes i _ c.loop-i-test.true in
-      laid_more code all c.args.steps.now c.loop-i.steps i _ c.loop-i-test.true (omega arith) (c.loop-i.invariant.laid code h) (search rules) (h _ _ axis c.from.ensures) }
+    record {
+      laid = λ code h.
+          let axis : (get_or all i (record { axis = 0; forward = false })).axis < 4 = c.as_slice-all.ensures.axes i _ c.loop-i-test.true in
+          laid_more code all c.args.steps.now c.loop-i.steps i _ c.loop-i-test.true (omega arith) (c.loop-i.invariant.laid code h) (search rules) (h _ _ axis c.from.ensures);
+    }
 
 pub returns-clause-laid : goal.returns-clause-laid
 unfolding first_refusal refusal_in answered unless bad_step_room

@@ -20,13 +20,13 @@ unfolding bad_axes
 loop-x-preserved g c = record {
   count = grind (arith, common_steps);
   laid = λ read h.
-    let s = step_read read c.args.given.now c.loop-x.x-index h c.loop-x-test.true c.x-item.is c.into-step.ensures in
-    let w = c.loop-x.invariant.laid read h in
-    grind (arith, common_steps);
+      let s = step_read read c.args.given.now c.loop-x.x-index h c.loop-x-test.true c.x-item.is c.into-step.ensures in
+      let w = c.loop-x.invariant.laid read h in
+      grind (arith, common_steps);
   axes = λ read h.
-    let s = step_read read c.args.given.now c.loop-x.x-index h c.loop-x-test.true c.x-item.is c.into-step.ensures in
-    let w = c.loop-x.invariant.axes read h in
-    grind (arith, common_steps);
+      let s = step_read read c.args.given.now c.loop-x.x-index h c.loop-x-test.true c.x-item.is c.into-step.ensures in
+      let w = c.loop-x.invariant.axes read h in
+      grind (arith, common_steps);
 }
 
 pub returns : goal.returns
