@@ -1,3 +1,5 @@
+#![tactic(auto, unfolding(complex::specs::Complex::cadd, mat::specs::Matrix::add_of, crate::specs::Paired::matrix_of))]
+
 ghost use Rattle.std.specs.Prelude.{◌≡◌};
 ghost use Rattle.complex.specs.Complex.{czero, cadd};
 ghost use Rattle.mat.specs.Matrix.{zero_of, add_of};

@@ -4,7 +4,7 @@ ghost use Rattle.mat.specs.Matrix.{re_tr};
 ghost use Rattle.mat.specs.Product.{mul_of};
 ghost use Rattle.geometry.specs.Radix.{volume};
 ghost use Rattle.geometry.specs.Steps.{neighbours_of};
-ghost use Rattle.links.specs.Field.{field_of};
+ghost use Rattle.links.specs.Field.{field_of, Stored};
 ghost use Rattle.links.specs.Lent.{lent_of};
 ghost use Rattle.gauge.specs.Field.{link_of, Holds, Plane};
 ghost use Rattle.gauge.specs.Plaquette.{plaquette_at, diagonal_at, plaquette_of, planes_sum, average_of, action_of, Corners};
@@ -14,13 +14,14 @@ use links::Lent;
 use mat::Su3;
 use products::row_col;
 
-// a·b. A function by itself, so that both products of a plaquette share its code: with the code twice, a
-// plaquette takes a tenth longer.
+// U_mu(m) U_nu(n). A function by itself, so that both products of a plaquette share its code: with the code
+// twice, a plaquette takes a tenth longer.
 #[tactic(auto, using(mat::proofs::Tables::product_is))]
-fn product(a: Lent, b: Lent) -> Su3
-    ensures { result ≡ mul_of (lent_of a.entry) (lent_of b.entry) }
+fn two_links(links: &[f64], v: usize, mu: usize, m: usize, nu: usize, n: usize) -> Su3
+    requires { Stored links.now v mu m × Stored links.now v nu n }
+    ensures { let u = field_of v links.now in result ≡ mul_of (u mu m) (u nu n) }
 {
-    Su3::product(a, b)
+    Su3::product(links::lend(links, v, mu, m), links::lend(links, v, nu, n))
 }
 
 // The plaquette in the plane of mu and nu: f is n + mu, g is n + nu.
@@ -36,9 +37,7 @@ pub fn plaquette_at(
     requires { Corners links.now v mu nu n f g }
     ensures { result ≡ plaquette_at (field_of v links.now) mu nu n f g }
 {
-    let a = product(links::lend(links, v, mu, n), links::lend(links, v, nu, f));
-    let b = product(links::lend(links, v, nu, n), links::lend(links, v, mu, g));
-    a.mul_dag(b)
+    two_links(links, v, mu, n, nu, f).mul_dag(two_links(links, v, nu, n, mu, g))
 }
 
 // The same, from the site alone.

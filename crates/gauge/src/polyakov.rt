@@ -1,10 +1,23 @@
 ghost use Rattle.std.specs.Prelude.{◌≡◌, ◌*◌, ◌<◌};
+ghost use Rattle.mat.specs.Matrix.{trace_of};
+ghost use Rattle.mat.specs.Product.{mul_of};
+ghost use Rattle.links.specs.Lent.{lent_of};
 ghost use Rattle.geometry.specs.Radix.{volume};
 ghost use Rattle.gauge.specs.Field.{link_of, Holds};
 ghost use Rattle.gauge.specs.Polyakov.{space, polyakov_trace, polyakov_of};
 
 use complex::C64;
+use links::Lent;
 use mat::Su3;
+
+// Tr p·u. With p by value, since the compiler then leaves the product of the line in its place: by a
+// reference, each turn of the loop copies it.
+#[tactic(auto, using(mat::proofs::Tables::product_is))]
+fn trace(p: Su3, u: Lent) -> C64
+    ensures { result ≡ trace_of (mul_of p (lent_of u.entry)) }
+{
+    Su3::trace_of_product(&p, u)
+}
 
 // The trace of the line around time at the k-th place of space. Its sites have consecutive numbers; of
 // the last product only the diagonal is worked out.
@@ -18,7 +31,7 @@ fn loop_trace(links: &[f64], d: [usize; 4], v: usize, k: usize) -> C64
     for t in 0..last {
         p = p * links::link(links, v, 0, first + t);
     }
-    Su3::trace_of_product(&p, links::lend(links, v, 0, first + last))
+    trace(p, links::lend(links, v, 0, first + last))
 }
 
 // ⟨Tr Π U_0⟩ / 3 over all places of space.

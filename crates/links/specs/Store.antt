@@ -1,5 +1,5 @@
 -- A matrix in a list of numbers: nine complex numbers, row by row, each a pair, real first.
-use Rattle.std.specs.Prelude.{ℕ, ◌+◌, ◌*◌, ◌≤◌, List, length, get_or, set, Float}
+use Rattle.std.specs.Prelude.{ℕ, ◌+◌, ◌*◌, List, get_or, set, Float}
 use Rattle.std.specs.Float.{nan}
 use Rattle.folds.specs.Folds.{iter_to}
 use Rattle.complex.specs.declared.C64.{C64}

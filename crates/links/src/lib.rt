@@ -29,6 +29,7 @@ impl<'a> Entries for Lent<'a> {
 }
 
 // The complex number at a place.
+#[tactic(auto, unfolding(crate::specs::Store::cell_at))]
 pub fn cell(links: &[f64], p: usize) -> C64
     requires { p + 1 < length links.now }
     ensures { result ≡ cell_at links.now p }
@@ -40,6 +41,7 @@ pub fn cell(links: &[f64], p: usize) -> C64
 }
 
 // Stores a complex number at a place.
+#[tactic(auto, unfolding(crate::specs::Store::put_cell))]
 fn put(links: &mut [f64], p: usize, c: C64)
     requires { p + 1 < length links.old }
     ensures { links.new ≡ put_cell links.old p c }
@@ -49,6 +51,7 @@ fn put(links: &mut [f64], p: usize, c: C64)
 }
 
 // The matrix at a place.
+#[tactic(auto, unfolding(crate::specs::Store::matrix_at))]
 fn load(links: &[f64], p: usize) -> Su3
     requires { p + 18 ≤ length links.now }
     ensures { result ≡ matrix_at links.now p }
@@ -61,6 +64,7 @@ fn load(links: &[f64], p: usize) -> Su3
 }
 
 // Stores a matrix at a place.
+#[tactic(auto, unfolding(crate::specs::Store::with_matrix))]
 pub fn store(links: &mut [f64], p: usize, u: Su3)
     requires { p + 18 ≤ length links.old }
     ensures { links.new ≡ with_matrix links.old p u }

@@ -14,7 +14,7 @@ use complex::C64;
 
 // Any complex 3×3 matrix, row by row, and not only one of SU(3): a staple sum or an average of clover
 // leaves leaves the group.
-#[derive(Clone, Copy)]
+#[derive(Clone, Copy, Debug, PartialEq)]
 pub struct Su3 {
     pub m: [C64; 9],
 }

@@ -1,9 +1,7 @@
 -- The rows of a subgroup.
 use Prim.Native.Nat.{ℕ, zero, suc, ◌+◌, ◌/◌, ◌<◌}
-use mathlib.Core.List.{[], ◌∷◌}
 use mathlib.Core.Path.{◌≡◌, refl}
 use native.Mathlib.Omega.{arith}
-use Rattle.quat.specs.declared.Subgroup.{Subgroup}
 use Rattle.quat.specs.Subgroup.{subgroup_of}
 
 pub pair_is : (g : ℕ) → g < 3 → record { i = g / 2; j = (g + 3) / 2 } ≡ subgroup_of g

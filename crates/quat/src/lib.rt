@@ -9,7 +9,7 @@ use complex::C64;
 pub use subgroups::{SUBGROUPS, left_mul_sub, sub_block};
 
 // A complex 2×2 matrix.
-#[derive(Clone, Copy)]
+#[derive(Clone, Copy, Debug, PartialEq)]
 pub struct Mat2 {
     pub m00: C64,
     pub m01: C64,
@@ -19,7 +19,7 @@ pub struct Mat2 {
 
 // `a0 + i(a1 σ1 + a2 σ2 + a3 σ3)`, which is the matrix `[[a0 + i a3, a2 + i a1], [−a2 + i a1, a0 − i a3]]`:
 // in SU(2) where its norm is 1.
-#[derive(Clone, Copy)]
+#[derive(Clone, Copy, Debug, PartialEq)]
 pub struct Quat {
     pub a0: f64,
     pub a1: f64,
@@ -28,7 +28,7 @@ pub struct Quat {
 }
 
 // The rows, and columns, i < j of a 3×3 matrix that an SU(2) subgroup acts on.
-#[derive(Clone, Copy)]
+#[derive(Clone, Copy, Debug, PartialEq, Eq)]
 pub struct Subgroup {
     pub i: usize,
     pub j: usize,

@@ -28,6 +28,7 @@ impl Mat2 {
 }
 
 // Worked out, since a look into the table would copy it.
+#[tactic(auto, using(crate::proofs::Laws::pair_is), unfolding(rows::specs::Refusals::first_refusal, rows::specs::Refusals::refusal_in))]
 fn pair(subgroup: usize) -> Result<Subgroup, Refusal>
     ensures pair { Checked ((ltb 2 subgroup, Refusal.Direction) ∷ []) (λ p. p ≡ subgroup_of subgroup) result }
     ensures rows { IfOk result (λ p. (p.i < 3) × (p.j < 3)) }

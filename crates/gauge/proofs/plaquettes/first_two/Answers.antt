@@ -8,12 +8,6 @@ use Rattle.gauge.proofs.plaquettes.first_two.Goals as goal
 pub loop-k-init : goal.loop-k-init
 loop-k-init c = (omega arith, fold_none _ _ _, fold_none _ _ _)
 
-pub overflow_step-k : goal.overflow_step-k
-overflow_step-k c = let h = c.loop-k-test.true in omega arith
-
-pub loop-k-smaller : goal.loop-k-smaller
-loop-k-smaller c = let h = c.loop-k-test.true in omega arith
-
 pub loop-k-preserved : goal.loop-k-preserved
 loop-k-preserved c =
     let i = c.loop-k.invariant in

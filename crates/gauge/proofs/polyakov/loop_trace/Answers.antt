@@ -1,13 +1,12 @@
 use lib.ListN.{get_or}
 use Prim.Native.Nat.{ℕ, ◌+◌, ◌*◌, ◌-◌, ◌<◌, ◌≤◌}
-use mathlib.Core.Path.{◌≡◌, refl, ◌∙◌}
+use mathlib.Core.Path.{◌≡◌, refl}
 use native.Mathlib.Omega.{arith}
 use mathlib.Core.List.{List}
 use lib.Ieee.{Float}
 use Rattle.geometry.specs.Radix.{volume}
 use Rattle.geometry.proofs.Shape.{axis_in, volume_high}
 use Rattle.links.specs.Field.{Stored, field_of}
-use Rattle.mat.proofs.Tables.{product_is}
 use Rattle.gauge.specs.Field.{Holds}
 use Rattle.gauge.specs.Polyakov.{space, polyakov_trace}
 use Rattle.gauge.proofs.Fits.{sized}
@@ -67,4 +66,4 @@ returns c =
     let e : t ≡ get_or args.d 0 0 - 1 = omega arith in
     let all : t + 1 ≡ get_or args.d 0 0 = omega (arith, some q) in
     let line = line_next (field_of args.v args.links.now) _ t c.loop-t.invariant.1 refl in
-    rw (c.trace_of_product.ensures, c.lend.ensures, product_is, ← e, line, q.1, line_by_lem _ (axis_in _ q.0.shape 0 (omega arith)) _ q.2 _ _ all)
+    rw (c.trace.ensures, c.lend.ensures, ← e, line, q.1, line_by_lem _ (axis_in _ q.0.shape 0 (omega arith)) _ q.2 _ _ all)
