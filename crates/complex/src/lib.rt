@@ -3,6 +3,7 @@
 #![tactic(auto)]
 
 mod number;
+mod numbers;
 mod row_vector;
 
 pub use number::minor;
