@@ -1,3 +1,5 @@
+#![tactic(auto, using(rows::proofs::Refusals::refusal_answered))]
+
 ghost use Rattle.fields.specs.Calls.{stout_call};
 ghost use Rattle.export.specs.Given.{MatrixGiven};
 ghost use Rattle.export.specs.Lists.{SmearGiven};
