@@ -3,6 +3,7 @@
 #![tactic(auto)]
 
 mod number;
+mod numbers;
 mod operators;
 mod row_vector;
 

@@ -9,7 +9,10 @@ use Rattle.complex.specs.Complex.{czero}
 use Rattle.mat.specs.declared.Su3.{Su3}
 use Rattle.mat.specs.Matrix.{zero_of}
 use Rattle.quat.specs.declared.Mat2.{Mat2}
-use Rattle.arrays.specs.Arrays.{pair_numbers, matrix_numbers, plane_numbers, block_numbers}
+use Rattle.complex.specs.Numbers.{pair_numbers}
+use Rattle.mat.specs.Numbers.{matrix_numbers}
+use Rattle.quat.specs.Numbers.{block_numbers}
+use Rattle.arrays.specs.Arrays.{plane_numbers}
 
 pub record Given {A B : Type 0} (numbers : A → List B) (refused : A) (answer : Result A Refusal) (r : ℕ) (out : List B) : Type 0 where
   pub refusal : r ≡ number_in (refusal_in answer)

@@ -1,8 +1,9 @@
+#![tactic(auto, using(rows::proofs::Refusals::refusal_answered))]
+
 ghost use Rattle.fields.specs.Calls.{stout_call};
 ghost use Rattle.export.specs.Given.{MatrixGiven};
 ghost use Rattle.export.specs.Lists.{SmearGiven};
 
-use arrays::matrix_numbers;
 use mat::Su3;
 use rows::{row, row_and_value};
 
@@ -18,7 +19,7 @@ pub extern "C" fn jj_stout_link(
     ensures { MatrixGiven (stout_call ext.now site mu rho links.now) result out.new }
 {
     let (row, u) = row_and_value(fields::stout_link(*ext, site, mu, rho, links), Su3::ZERO);
-    *out = matrix_numbers(u);
+    *out = u.into();
     row
 }
 

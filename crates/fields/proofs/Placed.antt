@@ -28,7 +28,7 @@ use Rattle.links.specs.Field.{Field}
 use Rattle.geometry.proofs.Range.{listed_at}
 use Rattle.gauge.specs.Field.{link_of, part_of, list_of}
 use Rattle.gauge.proofs.Lists.{length-list, number_at}
-use Rattle.arrays.specs.Arrays.{matrix_numbers}
+use Rattle.mat.specs.Numbers.{matrix_numbers}
 use Rattle.strength.specs.declared.Density.{Density}
 use Rattle.strength.specs.Densities.{density_of}
 use Rattle.fields.specs.Calls.{smeared, smeared_list, density_list}

@@ -4,7 +4,7 @@ use Rattle.std.specs.List.{flat_map}
 use Rattle.geometry.specs.Range.{range}
 use Rattle.geometry.specs.Radix.{volume}
 use Rattle.gauge.specs.Field.{link_of}
-use Rattle.arrays.specs.Arrays.{matrix_numbers}
+use Rattle.mat.specs.Numbers.{matrix_numbers}
 use Rattle.strength.specs.declared.Density.{Density}
 use Rattle.strength.specs.Densities.{density_of}
 use Rattle.fields.specs.Calls.{smeared}

@@ -7,7 +7,6 @@ ghost use Rattle.fields.specs.Places.{link_numbers};
 
 use crate::places;
 use crate::places::Filling;
-use arrays::matrix_numbers;
 use field_checks::checks;
 use gauge::Su3Lattice;
 use mat::Su3;
@@ -51,7 +50,7 @@ impl Filling<18> for Smearing<'_> {
 
     fn numbers(&self, k: usize) -> [f64; 18] {
         let v = self.lattice.extents.sites();
-        matrix_numbers(stout::stout_link(self.lattice, k % v, k / v, self.rho, TERMS))
+        stout::stout_link(self.lattice, k % v, k / v, self.rho, TERMS).into()
     }
 }
 

@@ -4,6 +4,7 @@
 
 mod exponential;
 mod matrix;
+mod numbers;
 mod operators;
 mod product;
 mod table;

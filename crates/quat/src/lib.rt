@@ -2,6 +2,7 @@
 // once, in the order that its definition in specs/ has.
 #![tactic(auto)]
 
+mod numbers;
 mod quaternion;
 mod subgroups;
 

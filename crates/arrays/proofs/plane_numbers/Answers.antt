@@ -8,7 +8,8 @@ use Rattle.folds.specs.Folds.{fill}
 use Rattle.folds.proofs.Laws.{fill_none, fill_next, fill_done}
 use Rattle.mat.specs.declared.Su3.{Su3}
 use Rattle.mat.specs.Matrix.{nth_matrix}
-use Rattle.arrays.specs.Arrays.{matrix_numbers, plane_numbers}
+use Rattle.mat.specs.Numbers.{matrix_numbers}
+use Rattle.arrays.specs.Arrays.{plane_numbers}
 use Rattle.arrays.proofs.plane_numbers.Goals as goal
 use Rattle.arrays.proofs.plane_numbers.Invariants.{number, zeros}
 
@@ -26,41 +27,14 @@ all_numbers f = refl
 pub loop-p-init : goal.loop-p-init
 loop-p-init c = (omega arith, fill_none _ _)
 
-pub offset_bounds-f-p : goal.offset_bounds-f-p
-offset_bounds-f-p c = omega arith
-
 pub loop-i-init : goal.loop-i-init
 loop-i-init c = (omega arith, fill_done _ _ (omega arith) c.loop-p.invariant.1)
-
-pub offset_bounds-m-i : goal.offset_bounds-m-i
-offset_bounds-m-i c = omega arith
-
-pub overflow_mul-out : goal.overflow_mul-out
-overflow_mul-out c = omega arith
-
-pub overflow_add-out : goal.overflow_add-out
-overflow_add-out c = omega arith
-
-pub offset_bounds-out-p : goal.offset_bounds-out-p
-offset_bounds-out-p c = omega arith
-
-pub overflow_step-i : goal.overflow_step-i
-overflow_step-i c = omega arith
-
-pub loop-i-smaller : goal.loop-i-smaller
-loop-i-smaller c = omega arith
 
 pub loop-i-preserved : goal.loop-i-preserved
 loop-i-preserved c =
     let p = c.loop-p.p in
     let i = c.loop-i.i in
-    (omega arith, fill_done _ _ {m = (18 * p + i) + 1} (omega arith) (fill_next _ _ _ c.loop-i.invariant.1 (number_of _ p i c.loop-i-test.true c.matrix_numbers-m.ensures)))
-
-pub overflow_step-p : goal.overflow_step-p
-overflow_step-p c = omega arith
-
-pub loop-p-smaller : goal.loop-p-smaller
-loop-p-smaller c = omega arith
+    (omega arith, fill_done _ _ {m = (18 * p + i) + 1} (omega arith) (fill_next _ _ _ c.loop-i.invariant.1 (number_of _ p i c.loop-i-test.true c.from-m.ensures)))
 
 pub loop-p-preserved : goal.loop-p-preserved
 loop-p-preserved c = (omega arith, fill_done _ _ (omega arith) c.loop-i.invariant.1)

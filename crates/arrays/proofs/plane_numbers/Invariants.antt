@@ -7,7 +7,7 @@ use Rattle.folds.specs.Folds.{fill}
 use Rattle.complex.specs.Rounded.{fzero}
 use Rattle.mat.specs.declared.Su3.{Su3}
 use Rattle.mat.specs.Matrix.{nth_matrix}
-use Rattle.arrays.specs.Arrays.{matrix_numbers}
+use Rattle.mat.specs.Numbers.{matrix_numbers}
 use Rattle.arrays.proofs.plane_numbers.Given as goal
 
 abbrev pub zeros : List Float
