@@ -11,7 +11,7 @@ use Rattle.gauge.specs.Field.{link_of}
 use Rattle.gauge.proofs.Lists.{links_of}
 use Rattle.strength.specs.Densities.{density_of}
 use Rattle.stout.proofs.Laws.{stout_nine}
-use Rattle.fields.specs.Calls.{Filled, smeared, smear_refusal, smeared_list, density_refusal, density_list}
+use Rattle.fields.specs.Calls.{Filled, smeared, smear_refusal, smeared_list, density_list}
 use Rattle.fields.specs.Claims.{SmearReadsOneList, SmearHoldsStoutLinks, ListHoldsDensity}
 
 -- an accepted call has stored what it was to store

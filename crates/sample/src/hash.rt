@@ -6,10 +6,10 @@ use std::fmt;
 
 // The pattern of an f64, and of every NaN the same one.
 pub fn pattern(x: f64) -> u64 {
-    if x == x {
-        f64::to_bits(x)
-    } else {
+    if x.is_nan() {
         0x7ff8_0000_0000_0000
+    } else {
+        x.to_bits()
     }
 }
 

@@ -136,17 +136,11 @@ pub fn quaternion(u: Su3) -> Quat {
 
 // The matrix with another number at one of its eighteen places.
 fn with_number(u: Su3, place: usize, x: f64) -> Su3 {
-    let mut m = u.m;
-    let k = place / 2;
-    if k < 9 {
-        let old = m[k];
-        if place % 2 == 0 {
-            m[k] = C64 { re: x, im: old.im };
-        } else {
-            m[k] = C64 { re: old.re, im: x };
-        }
+    let mut numbers = <[f64; 18]>::from(u);
+    if let Some(number) = numbers.get_mut(place) {
+        *number = x;
     }
-    Su3 { m }
+    Su3::from(numbers)
 }
 
 // One of eight damages, which the draw's top three bits choose.

@@ -1,5 +1,4 @@
-use Rattle.std.proofs.Common.{arith, sym, ap, ◌∙◌}
-use Rattle.rows.specs.Finite.{finite_numbers}
+use Rattle.std.proofs.Common.{arith, sym, ◌∙◌}
 use Rattle.folds.proofs.Laws.{all_none, all_next, all_fails, all_done}
 use Rattle.fields.proofs.Placed.{finite_placed}
 use Rattle.fields.proofs.places.is_finite.Goals as goal
