@@ -13,6 +13,7 @@ ghost use Rattle.field_checks.specs.Situations.{bad_coupling, bad_links, bad_sit
 ghost use Rattle.field_checks.specs.Rows.{extents_rows, site_rows, coords_rows, step_rows, field_rows, field_site_rows, plan_rows, plane_rows, link_rows, link_check_rows};
 
 pub use answers::{checked_matrix, checked_number};
+use geometry::Extents;
 
 // The checks: the first row that holds of a call's inputs, and 0 where none does. A check of more rows
 // begins with one of fewer.
@@ -26,11 +27,19 @@ pub fn extents_row(d: [usize; 4]) -> u32
     0
 }
 
+#[tactic(auto, using(geometry::proofs::Shape::volume_pos, geometry::proofs::Shape::volume_high))]
+fn sites(d: [usize; 4]) -> usize
+    requires { Shape d }
+    ensures { result ≡ volume d }
+{
+    Extents { d }.sites()
+}
+
 fn bad_site(d: [usize; 4], n: usize) -> bool
     requires { Shape d }
     ensures { result ≡ bad_site d n }
 {
-    n >= geometry::sites(d)
+    n >= sites(d)
 }
 
 pub fn site_row(d: [usize; 4], n: usize) -> u32
@@ -87,7 +96,7 @@ pub fn bad_links(d: [usize; 4], len: usize) -> bool
     requires { Shape d }
     ensures { result ≡ bad_links d len }
 {
-    len != 72 * geometry::sites(d)
+    len != 72 * sites(d)
 }
 
 pub fn field_row(d: [usize; 4], len: usize) -> u32
@@ -192,7 +201,7 @@ pub fn link_check_row(d: [usize; 4], len: usize, room: usize) -> u32
     if row != 0 {
         return row;
     }
-    if room < 4 * geometry::sites(d) {
+    if room < 4 * sites(d) {
         return 12;
     }
     0
