@@ -1,5 +1,5 @@
 -- The claims of specs/Claims.antt.
-use Rattle.std.proofs.Common.{◌≡◌, ℕ, ◌≤◌, Bool, true, false, cond, not, ◌&&◌, List, [], ◌∷◌, Option, None, Some, Result, Ok, Err, refl, sym, ◌∙◌, arith}
+use Rattle.std.proofs.Common.{◌≡◌, ℕ, ◌≤◌, Bool, true, false, cond, not, ◌&&◌, List, [], ◌∷◌, Option, None, Some, Result, Ok, Err, refl, arith}
 use mathlib.Core.Bool.{and-eq-true_iff}
 use borrow.Author.Tests.{not-true}
 use lib.Ieee.{Float}

@@ -1,2 +1,4 @@
 pub mod Grids
+pub mod Correlation
+pub mod Added
 pub mod Claims

@@ -1,5 +1,9 @@
-ghost use Rattle.std.specs.Prelude.{◌≡◌, ◌*◌, ◌≤◌, ◌↔◌, IsSome, IfSome, not, false};
+#![tactic(auto)]
+
+ghost use Rattle.std.specs.Prelude.{◌≡◌, ◌≤◌, ◌↔◌, IsSome, IfSome, false};
+ghost use Rattle.std.specs.List.{list_all};
 ghost use Rattle.geometry.specs.Radix.{volume};
+ghost use Rattle.geometry.specs.Shape.{extent_test};
 ghost use Rattle.flux.specs.Grid.{GridShape, bad_grid};
 
 // A grid's extents x, y, z.
@@ -9,20 +13,24 @@ pub struct Grid {
     ghost fits: { GridShape n },
 }
 
+fn fits(n: [usize; 3]) -> bool
+    ensures { result ≡ list_all extent_test n }
+{
+    n.iter().all(|e| geometry::extent_fits(*e))
+}
+
 impl Grid {
     // None where an extent is odd, below 2 or above 16.
+    #[tactic(auto, using(crate::proofs::Grids::grid_extents), unfolding(crate::specs::Grid::bad_grid))]
     pub fn new(n: [usize; 3]) -> Option<Self>
         ensures fits { IsSome result ↔ (bad_grid n ≡ false) }
         ensures extents { IfSome result (λ g. g.n ≡ n) }
     {
-        if n.iter().all(|e| geometry::extent_fits(*e)) {
-            Some(Self { n })
-        } else {
-            None
-        }
+        if fits(n) { Some(Self { n }) } else { None }
     }
 
     // The number of its cells.
+    #[tactic(auto, using(crate::proofs::Grids::cells_small, crate::proofs::Grids::cells_are))]
     pub fn cells(self) -> usize
         ensures volume { result ≡ volume self.n }
         ensures bounds { result ≤ 4096 }

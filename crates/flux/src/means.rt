@@ -1,3 +1,5 @@
+#![tactic(auto, unfolding(rows::specs::Refusals::first_refusal, rows::specs::Refusals::refusal_in, rows::specs::Refusals::answered, rows::specs::Refusals::finally, rows::specs::Refusals::unless, crate::specs::Situations::no_samples, crate::specs::Situations::no_means, crate::specs::Situations::bad_density, crate::specs::Situations::bad_per_density, crate::specs::Situations::bad_correlation, crate::specs::Calls::mean_call, crate::specs::Calls::correlation_refusal, crate::specs::Means::mean_loop, crate::specs::Means::means_of))]
+
 ghost use Rattle.std.specs.Prelude.{◌≡◌, ◌<◌, length};
 ghost use Rattle.flux.specs.Means.{means_of};
 ghost use Rattle.flux.specs.Calls.{mean_call, CorrelationCall};

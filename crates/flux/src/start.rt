@@ -1,3 +1,5 @@
+#![tactic(auto, unfolding(rows::specs::Refusals::first_refusal, rows::specs::Refusals::refusal_in, rows::specs::Refusals::answered, rows::specs::Refusals::finally, rows::specs::Refusals::unless, crate::specs::Situations::bad_per_density, crate::specs::Calls::empty_acc))]
+
 ghost use Rattle.flux.specs.Calls.{NewCall};
 
 use crate::{FluxAccumulator, checks};

@@ -7,7 +7,7 @@ use Rattle.baryon.proofs.walk.steps_of.Goals as goal
 
 pub loop-x-init : goal.loop-x-init
 unfolding bad_axes
-loop-x-init g c = record { count = ?; laid = λ read h. ?; axes = λ read h. refl }
+loop-x-init g c = record { count = rw c.new-steps.ensures refl; laid = λ read h. c.new-steps.ensures; axes = λ read h. refl }
 
 pub returns-then-step-gt3 : goal.returns-then-step-gt3
 unfolding first_refusal refusal_in bad_axes

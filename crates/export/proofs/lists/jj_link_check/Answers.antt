@@ -1,4 +1,4 @@
-use Rattle.std.proofs.Common.{ℕ, ◌≤◌, arith}
+use Rattle.std.proofs.Common.{arith}
 use Rattle.rows.proofs.Refusals.{value_low}
 use Rattle.export.proofs.lists.jj_link_check.Goals as goal
 

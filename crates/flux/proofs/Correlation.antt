@@ -1,0 +1,43 @@
+-- A density's cells, part of the grid's list, make its correlation.
+use Rattle.std.proofs.Common.{Result, None, refl, ℕ, ◌+◌, ◌*◌, ◌≤◌, List, map, length, ◌≡◌, ◌∙◌, sym, ap, ext_get_or, arith, take, drop, ◌<◌, length-take-le}
+use Rattle.std.proofs.Math.Nat.{add-sub_cancel_left}
+use Rattle.std.proofs.lemmas.List.{length-map, get_or-map, get_or-drop, get_or-take, length-drop}
+use Rattle.std.specs.List.{slice_range}
+use lib.Ieee.{Float, nan}
+use Rattle.complex.specs.Rounded.{as_float}
+use Rattle.geometry.specs.Radix.{volume}
+use Rattle.geometry.specs.Range.{range}
+use Rattle.geometry.proofs.Range.{length-listed, listed_at}
+use Rattle.slices.specs.Slices.{number}
+use Rattle.rows.specs.declared.Refusal.{Refusal}
+use Rattle.rows.specs.Refusals.{first_refusal, finally, answered, unless}
+use Rattle.sums.specs.Means.{ratio, ratios_refusal}
+use Rattle.flux.specs.declared.FluxAccumulator.{FluxAccumulator}
+use Rattle.flux.specs.Situations.{correlation_rows}
+use Rattle.flux.specs.Calls.{correlation_refusal, CorrelationCall}
+use Rattle.flux.specs.Means.{means_of, correlation_at, correlation_list}
+
+-- a list's middle part, mapped
+part_mapped : (f : Float → Float) (l : List Float) (first n : ℕ) → first + n ≤ length l → map f (slice_range l first (first + n)) ≡ map (λ r. f (number l (first + r))) (range n)
+part_mapped f l first n h =
+    let part = take n (drop first l) in
+    let len : length part ≡ n = length-take-le n (drop first l) (omega (arith, length-drop first l)) in
+    rw (add-sub_cancel_left first n)
+    (ext_get_or nan _ _ (length-map part f ∙ len ∙ sym (length-listed _ n))
+    (λ k g.
+    let below : k < n = omega (arith, length-map part f, len) in
+    get_or-map f part k nan nan (omega (arith, len))
+    ∙ ap f (get_or-take n (drop first l) k nan below ∙ get_or-drop first l k nan)
+    ∙ sym (listed_at _ nan n k below)))
+
+pub correlations_are : (acc : FluxAccumulator) (k : ℕ) (grid : List Float) {samples means : Float} {first cells : ℕ} → samples ≡ as_float acc.samples → means ≡ means_of acc k → first ≡ k * cells → cells ≡ volume acc.n → first + cells ≤ length grid
+    → map (ratio samples means) (slice_range grid first (first + cells)) ≡ correlation_list acc k grid
+unfolding correlation_list correlation_at
+correlations_are acc k grid {samples} {means} {first} {cells} a b c d h = part_mapped (ratio samples means) grid first cells h ∙ rw (c, a, b, d)
+
+-- the answer of an accepted call, row 10 apart
+pub correlation_made : (acc : FluxAccumulator) (k : ℕ) (grid out : List Float) (samples means : Float) (sums : List Float) {r : Result (Unit {0}) Refusal} {exit : List Float} → first_refusal (correlation_rows acc k (length grid) (length out)) ≡ None
+    → map (ratio samples means) sums ≡ correlation_list acc k grid
+    → r ≡ answered (ratios_refusal samples means sums) tt → exit ≡ unless (ratios_refusal samples means sums) (map (ratio samples means) sums) out → CorrelationCall acc k grid out r exit
+unfolding correlation_refusal ratios_refusal finally
+correlation_made acc k grid out samples means sums none are a l = record { answer = a ∙ rw (none, are) refl; list = l ∙ rw (none, are) refl }
