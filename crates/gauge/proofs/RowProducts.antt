@@ -15,9 +15,10 @@ abbrev pub dot_to : Su3 → Su3 → ℕ → ℕ → C64
 dot_to x y i n = fold_to cadd czero (λ k. cmul (at x i k) (conj_of (at y i k))) n
 
 module _ (a b c e : Su3) (i k : ℕ) (row : i < 3) (turn : k < 3) where
-  pub dot_next : {s term next : C64} → s ≡ dot_to (mul_of a b) (mul_of c e) i k → term ≡ cmul (row_col a b i k) (conj_of (row_col c e i k))
-      → next ≡ cadd s term → next ≡ dot_to (mul_of a b) (mul_of c e) i (k + 1)
-  dot_next sum product added = fold_next _ _ _ k sum (rw (product, mul_at a b i k row turn, mul_at c e i k row turn)) added
+  pub dot_next : {s p q conj term next : C64} → s ≡ dot_to (mul_of a b) (mul_of c e) i k → p ≡ row_col a b i k → q ≡ row_col c e i k
+      → conj ≡ conj_of q → term ≡ cmul p conj → next ≡ cadd s term → next ≡ dot_to (mul_of a b) (mul_of c e) i (k + 1)
+  dot_next sum left right flip product added =
+      fold_next _ _ _ k sum (rw (product, flip, left, right, mul_at a b i k row turn, mul_at c e i k row turn)) added
 
 pub dot_done : (x y : Su3) (i : ℕ) {n : ℕ} {s : C64} → n ≡ 3 → s ≡ dot_to x y i n → s.re ≡ (row_row x y i i).re
 unfolding row_row

@@ -1,7 +1,6 @@
 #![tactic(auto, unfolding(crate::specs::Plaquette::plaquette_of), using(geometry::proofs::Neighbour::fwd_below, geometry::proofs::Neighbour::near_up))]
 
 ghost use Rattle.std.specs.Prelude.{◌≡◌, ◌<◌};
-ghost use Rattle.mat.specs.Matrix.{re_tr};
 ghost use Rattle.geometry.specs.Radix.{volume};
 ghost use Rattle.geometry.specs.Steps.{fwd_of, neighbours_of};
 ghost use Rattle.links.specs.Field.{place_of};
@@ -49,28 +48,20 @@ impl Su3Lattice<'_> {
         self.plaquette_at(n, mu, nu, strides.fwd(n, mu), strides.fwd(n, nu))
     }
 
-    // The real part of its trace.
-    fn trace(&self, n: usize, mu: usize, nu: usize, near: &Neighbours) -> f64
-        requires plane { (n < volume self.now.extents.d) × (mu < 4) × (nu < 4) }
-        requires sides { near.now ≡ neighbours_of self.now.extents.d n }
-        ensures { let d = self.now.extents.d in result ≡ re_tr (plaquette_of d (link_of d self.now.links.now) n mu nu) }
-    {
-        self.square(n, mu, nu, near.up[mu], near.up[nu]).trace()
-    }
-
     // The sum of the six traces at a site.
-    #[tactic(auto, unfolding(crate::specs::Plaquette::planes_sum))]
+    #[tactic(auto, unfolding(crate::specs::Plaquette::planes_sum, crate::specs::Plaquette::plaquette_of), using(geometry::proofs::Neighbour::near_up))]
     fn planes_sum(&self, n: usize, near: &Neighbours) -> f64
         requires below { n < volume self.now.extents.d }
         requires sides { near.now ≡ neighbours_of self.now.extents.d n }
         ensures { let d = self.now.extents.d in result ≡ planes_sum d (link_of d self.now.links.now) n }
     {
-        0.0 + self.trace(n, 0, 1, near)
-            + self.trace(n, 0, 2, near)
-            + self.trace(n, 0, 3, near)
-            + self.trace(n, 1, 2, near)
-            + self.trace(n, 1, 3, near)
-            + self.trace(n, 2, 3, near)
+        let [t, x, y, z] = near.up;
+        0.0 + self.square(n, 0, 1, t, x).trace()
+            + self.square(n, 0, 2, t, y).trace()
+            + self.square(n, 0, 3, t, z).trace()
+            + self.square(n, 1, 2, x, y).trace()
+            + self.square(n, 1, 3, x, z).trace()
+            + self.square(n, 2, 3, y, z).trace()
     }
 
     // ⟨Re Tr U_P⟩ / 3 over all sites and planes. The coordinates are carried along: no division.

@@ -1,6 +1,5 @@
 ghost use Rattle.std.specs.Prelude.{◌≡◌, ◌<◌};
 ghost use Rattle.complex.specs.Rounded.{◌⊞◌};
-ghost use Rattle.complex.specs.Complex.{cmul, conj_of};
 ghost use Rattle.mat.specs.Matrix.{re_tr};
 ghost use Rattle.mat.specs.Product.{row_col, mul_of, mul_dag_of};
 ghost use Rattle.links.specs.Store.{TwoMatrices, matrix_at};
@@ -30,14 +29,20 @@ impl Square<'_> {
         left.mul_dag(right)
     }
 
-    // The k-th term of the i-th entry on the product's diagonal.
-    fn term(&self, i: usize, k: usize) -> C64
-        requires { (i < 3) × (k < 3) }
-        ensures { let l = self.now.links.now in result ≡ cmul (row_col (matrix_at l self.now.a) (matrix_at l self.now.b) i k) (conj_of (row_col (matrix_at l self.now.c) (matrix_at l self.now.e) i k)) }
+    // An entry of a·b.
+    fn left(&self, i: usize, j: usize) -> C64
+        requires { (i < 3) × (j < 3) }
+        ensures { let l = self.now.links.now in result ≡ row_col (matrix_at l self.now.a) (matrix_at l self.now.b) i j }
     {
-        let left = products::mul_entry_at(self.links, self.a, self.b, i, k);
-        let right = products::mul_entry_at(self.links, self.c, self.e, i, k);
-        left.mul(right.conj())
+        products::mul_entry_at(self.links, self.a, self.b, i, j)
+    }
+
+    // An entry of c·e.
+    fn right(&self, i: usize, j: usize) -> C64
+        requires { (i < 3) × (j < 3) }
+        ensures { let l = self.now.links.now in result ≡ row_col (matrix_at l self.now.c) (matrix_at l self.now.e) i j }
+    {
+        products::mul_entry_at(self.links, self.c, self.e, i, j)
     }
 
     // The real part of the i-th entry on the product's diagonal.
@@ -47,7 +52,7 @@ impl Square<'_> {
     {
         let mut s = C64::ZERO;
         for k in 0..3 {
-            s = s.add(self.term(i, k));
+            s = s.add(self.left(i, k).mul(self.right(i, k).conj()));
         }
         s.re
     }
@@ -60,8 +65,8 @@ impl Square<'_> {
         let mut s = C64::ZERO;
         let mut t = C64::ZERO;
         for k in 0..3 {
-            s = s.add(self.term(0, k));
-            t = t.add(self.term(1, k));
+            s = s.add(self.left(0, k).mul(self.right(0, k).conj()));
+            t = t.add(self.left(1, k).mul(self.right(1, k).conj()));
         }
         s.re + t.re
     }

@@ -27,10 +27,11 @@ impl Strides {
         ensures { result ≡ fwd_of self.now.extents.d n mu }
     {
         let s = self.s[mu];
+        let w = self.s[mu + 1];
         if c + 1 < self.extents.d[mu] {
             n + s
         } else {
-            n + s - self.s[mu + 1]
+            n + s - w
         }
     }
 
@@ -40,7 +41,8 @@ impl Strides {
         ensures { result ≡ bwd_of self.now.extents.d n mu }
     {
         let s = self.s[mu];
-        if 0 < c { n - s } else { n + self.s[mu + 1] - s }
+        let w = self.s[mu + 1];
+        if 0 < c { n - s } else { n + w - s }
     }
 
     // A site's coordinate on an axis.

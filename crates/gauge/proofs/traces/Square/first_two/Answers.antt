@@ -12,8 +12,8 @@ loop-k-preserved c =
     let i = c.loop-k.invariant in
     let h = c.loop-k-test.true in
     record {
-      first = dot_next _ _ _ _ 0 _ (omega arith) h i.first c.term.ensures c.add-s.ensures;
-      second = dot_next _ _ _ _ 1 _ (omega arith) h i.second c.term-in-loop-k.ensures c.add-t.ensures;
+      first = dot_next _ _ _ _ 0 _ (omega arith) h i.first c.left.ensures c.right.ensures c.conj.ensures c.mul.ensures c.add-s.ensures;
+      second = dot_next _ _ _ _ 1 _ (omega arith) h i.second c.left-in-loop-k.ensures c.right-in-loop-k.ensures c.conj-in-loop-k.ensures c.mul-in-loop-k.ensures c.add-t.ensures;
     }
 
 pub returns : goal.returns
