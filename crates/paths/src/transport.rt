@@ -1,4 +1,4 @@
-#![tactic(auto, unfolding(geometry::specs::Steps::spot_of, gauge::specs::Polyakov::later_of, gauge::specs::Polyakov::time_line_of, crate::specs::Path::step_of, crate::specs::Path::path_of, crate::specs::Path::line_of), using(geometry::proofs::Shape::volume_high, geometry::proofs::Neighbour::fwd_below, geometry::proofs::Neighbour::bwd_below))]
+#![tactic(auto, unfolding(gauge::specs::Polyakov::later_of, gauge::specs::Polyakov::time_line_of, crate::specs::Path::step_of, crate::specs::Path::path_of, crate::specs::Path::line_of), using(geometry::proofs::Stride::sites_last, geometry::proofs::Neighbour::fwd_below, geometry::proofs::Neighbour::bwd_below))]
 
 ghost use Rattle.std.specs.Prelude.{◌≡◌, ◌<◌};
 ghost use Rattle.geometry.specs.Radix.{volume};
@@ -23,12 +23,13 @@ impl<'a> Walker<'a> {
         Walker { lattice, here }
     }
 
-    // The link of a direction here.
+    // The link of a direction here. The last stride is the number of sites, worked out once.
     fn link(&self, mu: usize) -> Su3
         requires { mu < 4 }
         ensures { result ≡ field_under self.now mu self.now.here.at.site }
     {
-        self.lattice.link(mu, self.here.at.site)
+        let v = self.here.strides.s[4];
+        links::link(self.lattice.links, v, mu, self.here.at.site)
     }
 
     fn up(&mut self, mu: usize)
