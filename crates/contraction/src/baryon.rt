@@ -13,8 +13,8 @@ use stairs::Stairs;
 // A quark's line: out to it from the junction, t_len links along time, and back; top is t_len later.
 fn quark_line(junction: Walker<'_>, top: Walker<'_>, steps: &Stairs, t_len: usize) -> Su3
     requires field { top.lattice ≡ junction.lattice }
-    requires later { top.at.site ≡ later_of junction.lattice.extents.d junction.at.site t_len }
-    ensures { result ≡ quark_line_of junction.entry.lattice.extents.d (field_under junction.entry) t_len junction.entry.at.site steps.now }
+    requires later { top.here.at.site ≡ later_of junction.lattice.extents.d junction.here.at.site t_len }
+    ensures { result ≡ quark_line_of junction.entry.lattice.extents.d (field_under junction.entry) t_len junction.entry.here.at.site steps.now }
 {
     let mut below = junction;
     let lower = below.path(steps);
@@ -26,7 +26,7 @@ fn quark_line(junction: Walker<'_>, top: Walker<'_>, steps: &Stairs, t_len: usiz
 
 // The loop of three quarks: Re ε ε M M M / 6.
 pub fn baryon_loop(junction: Walker<'_>, paths: &[Stairs; 3], t_len: usize) -> f64
-    ensures { result ≡ loop_of junction.entry.lattice.extents.d (field_under junction.entry) t_len junction.entry.at.site paths.now }
+    ensures { result ≡ loop_of junction.entry.lattice.extents.d (field_under junction.entry) t_len junction.entry.here.at.site paths.now }
 {
     let mut top = junction;
     top.later(t_len);

@@ -1,4 +1,4 @@
--- Laws for callers: `Locality` says which links a staple reads; `Lists` that a list and its field determine each other; `Fits` what a field that fits has; `TimeLine` which number a site has by its time and place.
+-- Laws for callers: `Locality` says which links a staple reads; `Lists` that a list and its field determine each other; `Fits` that a list which holds a field has the length of one; `TimeLine` which number a site has by its time and place.
 -- The others serve the functions' proofs.
 pub mod Fits
 pub mod Around

@@ -2,7 +2,7 @@
 use Prim.Native.Nat.{ℕ, zero, suc, ◌+◌, ◌*◌, ◌%◌, ◌<◌, ◌≤◌}
 use mathlib.Core.List.{List, [], ◌∷◌}
 use mathlib.Core.Path.{◌≡◌, refl, sym}
-use native.Mathlib.Nat.{zero-add, add-zero, add_comm, div-one, mod-eq_of_lt, add-mul-mod_self_left, mul-le-mul_left, mul-le-mul, mul-add, mul-one}
+use native.Mathlib.Nat.{zero-add, add-zero, add_comm, div-one, mod-eq_of_lt, add-mul-mod_self_left, mul-le-mul_left, mul-add, mul-one}
 use native.Mathlib.Numerals.{add-one}
 use native.Mathlib.Omega.{arith}
 use lib.ListN.{length, get_or}
@@ -11,7 +11,6 @@ use Rattle.mat.specs.declared.Su3.{Su3}
 use Rattle.mat.specs.Matrix.{identity_of}
 use Rattle.mat.specs.Product.{mul_of}
 use Rattle.geometry.specs.Radix.{volume, index_of}
-use Rattle.geometry.specs.Shape.{Shape}
 use Rattle.geometry.specs.Steps.{fwd_of}
 use Rattle.geometry.specs.Stride.{stride_of, up_of}
 use Rattle.geometry.proofs.Radix.{index_coords}
@@ -79,13 +78,3 @@ module _ (d : List ℕ) (axis : 0 < length d) (k : ℕ) (place : k < volume (spa
 pub places_are : (d : List ℕ) → length d ≡ 4 → get_or d 1 0 * (get_or d 2 0 * get_or d 3 0) ≡ volume (space d)
 unfolding volume
 places_are d h = rw (four_are d h, mul-one (get_or d 3 0))
-
-pub record Places (d : List ℕ) : Type 0 where
-  pub yz : get_or d 2 0 * get_or d 3 0 ≤ 256
-  pub xyz : get_or d 1 0 * (get_or d 2 0 * get_or d 3 0) ≤ 4096
-
-pub places_small : (d : List ℕ) → Shape d → Places d
-places_small d s =
-    let high : (mu : ℕ) → mu < 4 → get_or d mu 0 ≤ 16 = λ mu h. (s.each mu h).high in
-    let yz = mul-le-mul (high 2 (omega arith)) (high 3 (omega arith)) in
-    record { yz = yz; xyz = mul-le-mul (high 1 (omega arith)) yz }

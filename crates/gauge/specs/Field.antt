@@ -28,14 +28,3 @@ pub record ListIsField : Type 0 where
 pub record Holds (d : List ℕ) (l : List Float) : Type 0 where
   pub shape : Shape d
   pub len : length l ≡ 72 * volume d
-
--- and a link of it
-pub record Link (d : List ℕ) (l : List Float) (n mu : ℕ) : Type 0 where
-  pub holds : Holds d l
-  pub below : n < volume d
-  pub axis : mu < 4
-
--- and the plane of two directions at a site
-pub record Plane (d : List ℕ) (l : List Float) (n mu nu : ℕ) : Type 0 where
-  pub link : Link d l n mu
-  pub other : nu < 4

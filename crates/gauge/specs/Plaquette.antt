@@ -1,5 +1,5 @@
 -- Plaquettes, their average and the Wilson action.
-use Rattle.std.specs.Prelude.{ℕ, ◌<◌, List, Float}
+use Rattle.std.specs.Prelude.{ℕ, List, Float}
 use Rattle.std.specs.Float.{binary64}
 use Rattle.std.specs.Float.Ieee.{add, div, of_bits}
 use Rattle.folds.specs.Folds.{fold_to}
@@ -9,7 +9,7 @@ use Rattle.mat.specs.Matrix.{re_tr}
 use Rattle.mat.specs.Product.{row_row, mul_of, mul_dag_of}
 use Rattle.geometry.specs.Radix.{volume}
 use Rattle.geometry.specs.Steps.{fwd_of}
-use Rattle.links.specs.Field.{Field, Sized}
+use Rattle.links.specs.Field.{Field}
 
 -- U_μ(n) U_ν(f) (U_ν(n) U_μ(g))†, where f is n+μ and g is n+ν
 abbrev pub plaquette_at : Field → ℕ → ℕ → ℕ → ℕ → ℕ → Su3
@@ -21,15 +21,6 @@ plaquette_of d U n mu nu = plaquette_at U mu nu n (fwd_of d n mu) (fwd_of d n nu
 -- the real part of the i-th entry on the diagonal of a·b·(c·e)†
 abbrev pub diagonal_at : Su3 → Su3 → Su3 → Su3 → ℕ → Float
 diagonal_at a b c e i = (row_row (mul_of a b) (mul_of c e) i i).re
-
--- n, f and g are sites, μ and ν directions, of a list that holds a field
-pub record Corners (l : List Float) (v mu nu n f g : ℕ) : Type 0 where
-  pub sized : Sized l v
-  pub axis : mu < 4
-  pub other : nu < 4
-  pub here : n < v
-  pub ahead : f < v
-  pub aside : g < v
 
 -- Re Tr of the six plaquettes at a site, summed from +0
 unfoldable pub planes_sum : List ℕ → Field → ℕ → Float

@@ -1,12 +1,12 @@
 -- The staples around a link: the sum A for which the local action is −(β/3) Re Tr(U_μ(n) A).
-use Rattle.std.specs.Prelude.{ℕ, zero, suc, ◌<◌, cond, List, ◌≡◌, eqb, Float}
+use Rattle.std.specs.Prelude.{ℕ, zero, suc, ◌<◌, cond, List, ◌≡◌, eqb}
 use Rattle.mat.specs.declared.Su3.{Su3}
 use Rattle.mat.specs.Matrix.{zero_of, add_of, dagger_of}
 use Rattle.mat.specs.Product.{mul_of, mul_dag_of, dag_mul_of}
 use Rattle.geometry.specs.Radix.{volume}
 use Rattle.geometry.specs.Shape.{Shape}
 use Rattle.geometry.specs.Steps.{fwd_of, bwd_of, parity_of}
-use Rattle.links.specs.Field.{Field, Sized}
+use Rattle.links.specs.Field.{Field}
 
 -- U_ν(f) U_μ†(u) U_ν†(n), where f is n+μ and u is n+ν
 abbrev pub upper_at : Field → ℕ → ℕ → ℕ → ℕ → ℕ → Su3
@@ -30,17 +30,6 @@ staples_to d U n mu (suc nu) = cond (eqb nu mu) (staples_to d U n mu nu) (add_st
 
 unfoldable pub staple_of : List ℕ → Field → ℕ → ℕ → Su3
 staple_of d U n mu = staples_to d U n mu 4
-
--- the sites of the two staples are sites
-pub record StapleSites (l : List Float) (v mu nu n f u b s : ℕ) : Type 0 where
-  pub sized : Sized l v
-  pub axis : mu < 4
-  pub other : nu < 4
-  pub here : n < v
-  pub ahead : f < v
-  pub up : u < v
-  pub back : b < v
-  pub side : s < v
 
 -- ## Which links a staple reads
 

@@ -1,11 +1,12 @@
-ghost use Rattle.std.specs.Prelude.{◌≡◌, ◌*◌, ◌<◌};
+ghost use Rattle.std.specs.Prelude.{◌≡◌, ◌<◌};
 ghost use Rattle.mat.specs.Matrix.{trace_of};
 ghost use Rattle.mat.specs.Product.{mul_of};
 ghost use Rattle.links.specs.Lent.{lent_of};
 ghost use Rattle.geometry.specs.Radix.{volume};
-ghost use Rattle.gauge.specs.Field.{link_of, Holds};
+ghost use Rattle.gauge.specs.Field.{link_of};
 ghost use Rattle.gauge.specs.Polyakov.{space, polyakov_trace, polyakov_of};
 
+use crate::Su3Lattice;
 use complex::C64;
 use links::Lent;
 use mat::Su3;
@@ -19,31 +20,32 @@ fn trace(p: Su3, u: Lent) -> C64
     Su3::trace_of_product(&p, u)
 }
 
-// The trace of the line around time at the k-th place of space. Its sites have consecutive numbers; of
-// the last product only the diagonal is worked out.
-fn loop_trace(links: &[f64], d: [usize; 4], v: usize, k: usize) -> C64
-    requires { Holds d links.now × (v ≡ volume d) × (k < volume (space d)) }
-    ensures { result ≡ polyakov_trace d (link_of d links.now) k }
-{
-    let last = d[0] - 1;
-    let first = d[0] * k;
-    let mut p = Su3::IDENTITY;
-    for t in 0..last {
-        p = p * links::link(links, v, 0, first + t);
+impl Su3Lattice<'_> {
+    // The trace of the line around time at the k-th place of space. Its sites have consecutive numbers;
+    // of the last product only the diagonal is worked out.
+    fn loop_trace(&self, k: usize) -> C64
+        requires { k < volume (space self.now.extents.d) }
+        ensures { let d = self.now.extents.d in result ≡ polyakov_trace d (link_of d self.now.links.now) k }
+    {
+        let last = self.extents.d[0] - 1;
+        let first = self.extents.d[0] * k;
+        let mut p = Su3::IDENTITY;
+        for t in 0..last {
+            p = p * self.link(0, first + t);
+        }
+        trace(p, self.lend(0, first + last))
     }
-    trace(p, links::lend(links, v, 0, first + last))
-}
 
-// ⟨Tr Π U_0⟩ / 3 over all places of space.
-pub fn polyakov_loop(links: &[f64], d: [usize; 4]) -> C64
-    requires { Holds d links.now }
-    ensures { result ≡ polyakov_of d (link_of d links.now) }
-{
-    let v = geometry::sites(d);
-    let places = d[1] * (d[2] * d[3]);
-    let mut s = C64::ZERO;
-    for k in 0..places {
-        s += loop_trace(links, d, v, k);
+    // ⟨Tr Π U_0⟩ / 3 over all places of space.
+    pub fn polyakov_loop(&self) -> C64
+        ensures { let d = self.now.extents.d in result ≡ polyakov_of d (link_of d self.now.links.now) }
+    {
+        let [_, x, y, z] = self.extents.d;
+        let places = x * (y * z);
+        let mut s = C64::ZERO;
+        for k in 0..places {
+            s += self.loop_trace(k);
+        }
+        s.scale(1.0 / (3.0 * (places as u32) as f64))
     }
-    s.scale(1.0 / (3.0 * (places as u32) as f64))
 }

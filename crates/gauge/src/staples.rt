@@ -1,70 +1,56 @@
-ghost use Rattle.std.specs.Prelude.{◌≡◌};
-ghost use Rattle.mat.specs.Matrix.{add_of};
-ghost use Rattle.links.specs.Field.{field_of};
-ghost use Rattle.gauge.specs.Field.{link_of, Link};
-ghost use Rattle.gauge.specs.Staple.{upper_at, lower_at, staple_of, StapleSites};
+#![tactic(auto, using(mat::proofs::Tables::products, geometry::proofs::Neighbour::near_up, geometry::proofs::Neighbour::near_down, geometry::proofs::Neighbour::fwd_below, geometry::proofs::Neighbour::bwd_below, geometry::proofs::Neighbour::up_down, crate::proofs::Around::corner_low, geometry::proofs::Shape::volume_high), unfolding(crate::specs::Staple::add_staples, crate::specs::Staple::staples_to, crate::specs::Staple::staple_of))]
+
+ghost use Rattle.std.specs.Prelude.{◌≡◌, ◌≢◌, ◌<◌};
+ghost use Rattle.geometry.specs.Radix.{volume};
+ghost use Rattle.geometry.specs.Steps.{neighbours_of};
+ghost use Rattle.gauge.specs.Field.{link_of};
+ghost use Rattle.gauge.specs.Staple.{add_staples, staple_of};
 ghost use Rattle.gauge.specs.Paired.{matrix_of};
 
+use crate::Su3Lattice;
 use crate::paired::{Paired, add_matrix, matrix, zero_sum};
+use geometry::Neighbours;
 use mat::Su3;
 use products::Adjoint;
+use steps::Position;
 
-// a, and then the two staples in the plane of mu and nu. The sites: n, f = n + mu, u = n + nu,
-// b = n - nu, s = n + mu - nu.
-#[tactic(auto, using(mat::proofs::Tables::products))]
-fn add_staples(
-    links: &[f64],
-    v: usize,
-    mu: usize,
-    nu: usize,
-    n: usize,
-    f: usize,
-    u: usize,
-    b: usize,
-    s: usize,
-    a: Paired,
-) -> Paired
-    requires { StapleSites links.now v mu nu n f u b s }
-    ensures { matrix_of result ≡ add_of (add_of (matrix_of a) (upper_at (field_of v links.now) mu nu n f u)) (lower_at (field_of v links.now) mu nu b s) }
-{
-    let upper = Su3::product(
-        &Su3::product(
-            links::lend(links, v, nu, f),
-            Adjoint(links::lend(links, v, mu, u)),
-        ),
-        Adjoint(links::lend(links, v, nu, n)),
-    );
-    let lower = Su3::product(
-        &Su3::product(
-            Adjoint(links::lend(links, v, nu, s)),
-            Adjoint(links::lend(links, v, mu, b)),
-        ),
-        links::lend(links, v, nu, b),
-    );
-    add_matrix(add_matrix(a, upper), lower)
-}
+impl Su3Lattice<'_> {
+    // a, and then the two staples in the plane of mu and nu at n. The sites: f is n + mu, u is n + nu,
+    // b is n - nu, s is n + mu - nu.
+    fn add_staples(&self, n: usize, mu: usize, nu: usize, near: &Neighbours, a: Paired) -> Paired
+        requires plane { (n < volume self.now.extents.d) × (mu < 4) × (nu < 4) × (nu ≢ mu) }
+        requires sides { near.now ≡ neighbours_of self.now.extents.d n }
+        ensures { let d = self.now.extents.d in matrix_of result ≡ add_staples d (link_of d self.now.links.now) n mu nu (matrix_of a) }
+    {
+        let f = near.up[mu];
+        let u = near.up[nu];
+        let b = near.down[nu];
+        let s = f + b - n;
+        let upper = Su3::product(
+            &Su3::product(self.lend(nu, f), Adjoint(self.lend(mu, u))),
+            Adjoint(self.lend(nu, n)),
+        );
+        let lower = Su3::product(
+            &Su3::product(Adjoint(self.lend(nu, s)), Adjoint(self.lend(mu, b))),
+            self.lend(nu, b),
+        );
+        add_matrix(add_matrix(a, upper), lower)
+    }
 
-// The sum of the six staples around a link. Two calls of `add_staples`, so that it stands by itself in
-// the machine's code: merged into a loop it would lose its pairs.
-pub fn staple(links: &[f64], d: [usize; 4], n: usize, mu: usize) -> Su3
-    requires { Link d links.now n mu }
-    ensures { result ≡ staple_of d (link_of d links.now) n mu }
-{
-    let v = geometry::sites(d);
-    let near = steps::neighbours(d, n);
-    let up = near.up;
-    let down = near.down;
-    let f = up[mu];
-    let mut a = zero_sum();
-    for nu in 0..mu {
-        let u = up[nu];
-        let b = down[nu];
-        a = add_staples(links, v, mu, nu, n, f, u, b, f + b - n, a);
+    // The sum of the six staples around a link. Two calls of `add_staples`, so that it stands by itself
+    // in the machine's code: merged into a loop it would lose its pairs.
+    pub fn staple(&self, n: usize, mu: usize) -> Su3
+        requires { (n < volume self.now.extents.d) × (mu < 4) }
+        ensures { let d = self.now.extents.d in result ≡ staple_of d (link_of d self.now.links.now) n mu }
+    {
+        let near = Position::new(self.extents, n).neighbours();
+        let mut a = zero_sum();
+        for nu in 0..mu {
+            a = self.add_staples(n, mu, nu, &near, a);
+        }
+        for nu in mu + 1..4 {
+            a = self.add_staples(n, mu, nu, &near, a);
+        }
+        matrix(a)
     }
-    for nu in mu + 1..4 {
-        let u = up[nu];
-        let b = down[nu];
-        a = add_staples(links, v, mu, nu, n, f, u, b, f + b - n, a);
-    }
-    matrix(a)
 }

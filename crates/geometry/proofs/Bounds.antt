@@ -37,6 +37,9 @@ shape_small d s = small d (λ mu h. (s.each mu h).high)
 pub within_small : (d c : List ℕ) → Shape d → Within d c → Small c
 within_small d c s w = small c (λ mu h. omega (arith, w.each mu (omega (arith, s.four)), (s.each mu h).high))
 
+pub both_small : {d c : List ℕ} → Shape d → Within d c → Small d × Small c
+both_small s w = (shape_small _ s, within_small _ _ s w)
+
 pub coords_small : (d : List ℕ) (n : ℕ) → Shape d → Small (coords_of d n)
 coords_small d n s = within_small d (coords_of d n) s (coords_within d n (volume_pos d s))
 

@@ -1,13 +1,15 @@
 -- The test of extents says what Shape says, and what follows for a field's extents.
 use Prim.Native.Nat.{ℕ, suc, ◌%◌, ◌<◌, ◌≤◌}
-use mathlib.Core.Bool.{true, ◌&&◌, and-eq-true_iff}
+use mathlib.Core.Bool.{Bool, true, false, ◌&&◌, and-eq-true_iff}
 use mathlib.Core.List.{List, [], ◌∷◌}
-use mathlib.Core.Path.{◌≡◌}
+use mathlib.Core.Path.{◌≡◌, refl}
 use native.Mathlib.Nat.{mul-le-mul, mul-pos, le_refl}
 use native.Mathlib.Omega.{arith}
 use lib.Dec.{leb, eqb}
 use lib.ListN.{length, get_or}
 use borrow.Author.Tests.{leb-true, eqb-true, le-leb, eq-eqb}
+use Rattle.std.specs.List.{list_all}
+use Rattle.folds.specs.Folds.{all_below}
 use Rattle.folds.proofs.Laws.{all_each, each_all}
 use Rattle.folds.proofs.Few.{four_are as few-are}
 use Rattle.geometry.specs.Radix.{volume}
@@ -35,6 +37,23 @@ fits_shape d four h = record { four = four; each = λ mu g. extent_true (get_or 
 pub shape_fits : (d : List ℕ) → Shape d → fits_of d ≡ true
 unfolding fits_of
 shape_fits d s = each_all (λ (k : ℕ). extent_test (get_or d k 0)) 4 (λ mu g. extent_passes (get_or d mu 0) (s.each mu g))
+
+regrouped : (p q r s : Bool) → p && (q && (r && (s && true))) ≡ true && p && q && r && s
+regrouped false q r s = refl
+regrouped true false r s = refl
+regrouped true true false s = refl
+regrouped true true true false = refl
+regrouped true true true true = refl
+
+-- the code's walk over them
+pub all_fit : (d : List ℕ) → length d ≡ 4 → list_all extent_test d ≡ fits_of d
+unfolding fits_of all_below
+all_fit [] four = absurd (omega arith)
+all_fit (a ∷ []) four = absurd (omega arith)
+all_fit (a ∷ b ∷ []) four = absurd (omega arith)
+all_fit (a ∷ b ∷ c ∷ []) four = absurd (omega arith)
+all_fit (a ∷ b ∷ c ∷ e ∷ []) four = regrouped (extent_test a) (extent_test b) (extent_test c) (extent_test e)
+all_fit (a ∷ b ∷ c ∷ e ∷ f ∷ l) four = absurd (omega arith)
 
 -- ## what follows
 

@@ -3,7 +3,7 @@ use Prim.Native.Nat.{ℕ, zero, suc, ◌+◌, ◌*◌, ◌-◌, ◌/◌, ◌%◌
 use mathlib.Core.List.{List, [], ◌∷◌}
 use mathlib.Core.Path.{◌≡◌, refl, ap, sym, ◌∙◌}
 use native.Mathlib.Decide.{dec_lt}
-use native.Mathlib.Nat.{mul-add, mul_assoc, one-mul, mul-pos, mul-le-mul_left, div-one, div-div-eq-div-mul, mod-lt, mod_self, mod-eq_of_lt, add-mod_right}
+use native.Mathlib.Nat.{mul-add, mul_assoc, one-mul, mul-pos, mul-le-mul_left, div-one, div-div-eq-div-mul, mod_self, mod-eq_of_lt, add-mod_right}
 use native.Mathlib.Omega.{arith}
 use lib.ListN.{length, get_or, set, take}
 use lib.Seq.{take-length}
@@ -147,9 +147,6 @@ module _ (d : List ℕ) (n mu : ℕ) (below : n < volume d) (axis : mu < length 
   pub stride_up : up_of n (n / stride_of d mu % get_or d mu 0) (get_or d mu 0) (stride_of d mu) (stride_of d (suc mu)) ≡ fwd_of d n mu
   stride_up = rw (← (coord_at d n mu axis)) step_up
 
-  pub stride_down : down_of n (n / stride_of d mu % get_or d mu 0) (stride_of d mu) (stride_of d (suc mu)) ≡ bwd_of d n mu
-  stride_down = rw (← (coord_at d n mu axis)) step_down
-
 -- moves along two axes shift a number by the sum of their shifts
 pub corner : (d : List ℕ) (n mu k nu j : ℕ) → n < volume d → mu < length d → nu < length d → (nu ≡ mu → ⊥)
     → moved_of d (moved_of d n mu k) nu j + n ≡ moved_of d n mu k + moved_of d n nu j
@@ -165,6 +162,10 @@ corner d n mu k nu j below axis other ne =
 pub stride_of_lem : (d : List ℕ) (mu : ℕ) → mu < 5 → get_or (strides_of d) mu 0 ≡ stride_of d mu
 unfolding strides_of
 stride_of_lem d mu h = listed_at (stride_of d) 0 5 mu h
+
+-- the last is the number of sites
+pub sites_last : (d : List ℕ) → Shape d → {s : List ℕ} → s ≡ strides_of d → get_or s 4 0 ≡ volume d
+sites_last d shape e = rw (e, stride_of_lem d 4 (omega arith)) (ap (stride_of d) (sym shape.four) ∙ stride_last d)
 
 -- as the code multiplies
 pub strides_are : (d : List ℕ) → length d ≡ 4
@@ -198,36 +199,3 @@ module _ (d : List ℕ) (shape : Shape d) (n mu : ℕ) (below : n < volume d) (a
         last = λ h. let f : e ≡ c + 1 = omega (arith, small, h) in omega (arith, q, o, ap (λ (y : ℕ). s * y) f, mul-add s c 1);
         back = λ h. let g = mul-le-mul_left s (let a : 1 ≤ c = h in a) in omega (arith, g, o);
       }
-
-  pub stride_fits : StepBounds n (n / stride_of d mu % get_or d mu 0) (get_or d mu 0) (stride_of d mu) (stride_of d (suc mu))
-  stride_fits = rw (← (coord_at d n mu (axis_in d shape mu axis))) step_fits
-
--- what a move by the stride s may count on, and where it leads: c is the coordinate, e the extent
-pub record Move (d : List ℕ) (n mu k c e s : ℕ) : Type 0 where
-  pub site : n < 65536
-  pub extent : 0 < e
-  pub stride : 0 < s
-  pub coord : c < 16
-  pub over : s * c ≤ n
-  pub under : s * ((c + k) % e) ≤ 65536
-  pub leads : n + s * ((c + k) % e) - s * c ≡ moved_of d n mu k
-
-pub move_at : (d : List ℕ) → Shape d → (n mu k s : ℕ) → n < volume d → mu < 4 → s ≡ stride_of d mu → Move d n mu k (n / s % get_or d mu 0) (get_or d mu 0) s
-move_at d shape n mu k s below axis same =
-    let p = volume_pos d shape in
-    let v = volume_high d shape in
-    let i = axis_in d shape mu axis in
-    let x = shape.each mu axis in
-    let e = get_or d mu 0 in
-    let c = get_or (coords_of d n) mu 0 in
-    let r = mod-lt (c + k) (let a : 0 < e = omega (arith, x.low) in a) in
-    let u = mul-le-mul_left (stride_of d mu) (let a : (c + k) % e ≤ e = omega (arith, r) in a) in
-    rw (same, ← (coord_at d n mu i)) (record {
-      site = omega (arith, v);
-      extent = omega (arith, x.low);
-      stride = stride_pos d mu p;
-      coord = omega (arith, coord_below d p n mu i, x.high);
-      over = coord_over d n mu below i;
-      under = omega (arith, u, stride_next d mu i, stride_high d (suc mu) p, v);
-      leads = omega (arith, moved_by d n mu below i k);
-    })

@@ -1,10 +1,7 @@
 -- How far apart in number two sites are that are next to each other along an axis, and the steps by it. Definitions only.
-use Rattle.std.specs.Prelude.{ℕ, ◌+◌, ◌-◌, ◌<◌, ◌≤◌, cond, List, map, ◌≡◌, ltb, take}
+use Rattle.std.specs.Prelude.{ℕ, ◌+◌, ◌-◌, ◌<◌, ◌≤◌, cond, List, map, ltb, take}
 use Rattle.geometry.specs.Range.{range}
-use Rattle.geometry.specs.declared.Spot.{Spot}
 use Rattle.geometry.specs.Radix.{volume}
-use Rattle.geometry.specs.Shape.{Shape}
-use Rattle.geometry.specs.Steps.{spot_of}
 
 -- the product of the extents before the axis mu
 unfoldable pub stride_of : List ℕ → ℕ → ℕ
@@ -29,11 +26,3 @@ pub record StepBounds (n c e s w : ℕ) : Type 0 where
   pub within : c < 16
   pub last : e ≤ c + 1 → w ≤ n + s
   pub back : 0 < c → s ≤ n
-
--- a spot and an axis to step along, with the strides at hand
-pub record Standing (d s : List ℕ) (p : Spot) (mu : ℕ) : Type 0 where
-  pub shape : Shape d
-  pub strides : s ≡ strides_of d
-  pub below : p.site < volume d
-  pub spot : p ≡ spot_of d p.site
-  pub axis : mu < 4

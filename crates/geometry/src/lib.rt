@@ -4,7 +4,7 @@
 ghost use Rattle.std.specs.Prelude.{◌≡◌, ◌<◌, ◌≤◌, ◌↔◌, true, IsSome, IfSome};
 ghost use Rattle.geometry.specs.Radix.{volume, coords_of, index_of, Within};
 ghost use Rattle.geometry.specs.Shape.{Shape, extent_test, fits_of};
-ghost use Rattle.geometry.specs.Steps.{parity_of};
+ghost use Rattle.geometry.specs.Steps.{parity_of, spot_of};
 ghost use Rattle.geometry.specs.Order.{half_of, nth_of};
 
 // The sites next to a site, up and down each axis.
@@ -19,6 +19,20 @@ pub struct Neighbours {
 pub struct Spot {
     pub site: usize,
     pub at: [usize; 4],
+}
+
+// Whether an extent is even and from 2 to 16.
+pub fn extent_fits(e: usize) -> bool
+    ensures { result ≡ extent_test e }
+{
+    2 <= e && e <= 16 && e % 2 == 0
+}
+
+// Whether a field can have these extents.
+pub fn fits(d: [usize; 4]) -> bool
+    ensures { result ≡ fits_of d }
+{
+    d.iter().all(|e| extent_fits(*e))
 }
 
 // The extents of a field along t, x, y and z.
@@ -42,69 +56,57 @@ impl Extents {
     pub fn sites(self) -> usize
         ensures { result ≡ volume self.d }
     {
-        sites(self.d)
+        let d = self.d;
+        d[0] * (d[1] * (d[2] * d[3]))
     }
-}
 
-// Whether an extent is even and from 2 to 16.
-pub fn extent_fits(e: usize) -> bool
-    ensures { result ≡ extent_test e }
-{
-    2 <= e && e <= 16 && e % 2 == 0
-}
+    // The coordinates t, x, y, z of a site. What is left of the number for z is below its extent.
+    pub fn coords(self, site: usize) -> [usize; 4]
+        requires { site < volume self.d }
+        ensures { result ≡ coords_of self.d site }
+    {
+        let d = self.d;
+        let a = site / d[0];
+        let b = a / d[1];
+        [site % d[0], a % d[1], b % d[2], b / d[2]]
+    }
 
-// Whether a field can have these extents.
-pub fn fits(d: [usize; 4]) -> bool
-    ensures { result ≡ fits_of d }
-{
-    for mu in 0..4 {
-        if !extent_fits(d[mu]) {
-            return false;
+    // A site with its coordinates.
+    #[tactic(auto, unfolding(crate::specs::Steps::spot_of))]
+    pub fn spot(self, site: usize) -> Spot
+        requires { site < volume self.d }
+        ensures { result ≡ spot_of self.d site }
+    {
+        Spot {
+            site,
+            at: self.coords(site),
         }
     }
-    true
-}
 
-// The number of sites.
-pub fn sites(d: [usize; 4]) -> usize
-    requires { Shape d }
-    ensures { result ≡ volume d }
-{
-    d[0] * (d[1] * (d[2] * d[3]))
-}
+    // The site at coordinates.
+    pub fn index(self, c: [usize; 4]) -> usize
+        requires { Within self.d c }
+        ensures { result ≡ index_of self.d c }
+    {
+        let d = self.d;
+        c[0] + d[0] * (c[1] + d[1] * (c[2] + d[2] * c[3]))
+    }
 
-// The coordinates t, x, y, z of a site. What is left of the number for z is below its extent.
-pub fn coords(d: [usize; 4], site: usize) -> [usize; 4]
-    requires { Shape d × (site < volume d) }
-    ensures { result ≡ coords_of d site }
-{
-    let a = site / d[0];
-    let b = a / d[1];
-    [site % d[0], a % d[1], b % d[2], b / d[2]]
-}
+    // 0 or 1: whether the coordinates' sum is even or odd.
+    pub fn parity(self, site: usize) -> usize
+        requires { site < volume self.d }
+        ensures { result ≡ parity_of self.d site }
+    {
+        let c = self.coords(site);
+        (c[0] + c[1] + c[2] + c[3]) % 2
+    }
 
-// The site at coordinates.
-pub fn index(d: [usize; 4], c: [usize; 4]) -> usize
-    requires { Shape d × Within d c }
-    ensures { result ≡ index_of d c }
-{
-    c[0] + d[0] * (c[1] + d[1] * (c[2] + d[2] * c[3]))
-}
-
-// 0 or 1: whether the coordinates' sum is even or odd.
-pub fn parity(d: [usize; 4], site: usize) -> usize
-    requires { Shape d × (site < volume d) }
-    ensures { result ≡ parity_of d site }
-{
-    let c = coords(d, site);
-    (c[0] + c[1] + c[2] + c[3]) % 2
-}
-
-// The k-th site of a parity in ascending order, counted from 0.
-pub fn nth(d: [usize; 4], p: usize, k: usize) -> usize
-    requires { Shape d × (p < 2) × (k < half_of d) }
-    ensures { result ≡ nth_of d p k }
-{
-    let at = 2 * k;
-    at + (p + parity(d, at)) % 2
+    // The k-th site of a parity in ascending order, counted from 0.
+    pub fn nth(self, p: usize, k: usize) -> usize
+        requires { (p < 2) × (k < half_of self.d) }
+        ensures { result ≡ nth_of self.d p k }
+    {
+        let at = 2 * k;
+        at + (p + self.parity(at)) % 2
+    }
 }

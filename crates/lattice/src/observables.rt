@@ -23,7 +23,7 @@ pub fn plaquette(
     let lattice = checks::lattice(extents, links)?;
     checks::site(extents, site)?;
     checks::plane(mu, nu)?;
-    checks::finite_matrix(gauge::plaquette(lattice.links, extents.d, site, mu, nu))
+    checks::finite_matrix(lattice.plaquette(site, mu, nu))
 }
 
 // The sum of the six staples around a link.
@@ -35,7 +35,7 @@ pub fn staple(plan: Plan, site: usize, mu: usize, links: &[f64]) -> Result<Su3, 
     let lattice = checks::lattice(extents, links)?;
     checks::site(extents, site)?;
     checks::direction(mu)?;
-    checks::finite_matrix(gauge::staple(lattice.links, extents.d, site, mu))
+    checks::finite_matrix(lattice.staple(site, mu))
 }
 
 // ⟨Re Tr U_P⟩ / 3, averaged over all sites and the six planes.
@@ -44,7 +44,7 @@ pub fn average_plaquette(extents: [usize; 4], links: &[f64]) -> Result<f64, Refu
 {
     let extents = checks::extents(extents)?;
     let lattice = checks::lattice(extents, links)?;
-    checks::finite(gauge::average_plaquette(lattice.links, extents.d))
+    checks::finite(lattice.average_plaquette())
 }
 
 // The Wilson action β Σ (1 − Re Tr U_P / 3).
@@ -54,7 +54,7 @@ pub fn action(plan: Plan, links: &[f64]) -> Result<f64, Refusal>
     let extents = checks::extents(plan.extents)?;
     checks::coupling(plan.coupling)?;
     let lattice = checks::lattice(extents, links)?;
-    checks::finite(gauge::action(lattice.links, extents.d, plan.coupling))
+    checks::finite(lattice.action(plan.coupling))
 }
 
 // The Polyakov loop ⟨Tr Π U_0⟩ / 3, averaged over space.
@@ -63,5 +63,5 @@ pub fn polyakov_loop(extents: [usize; 4], links: &[f64]) -> Result<C64, Refusal>
 {
     let extents = checks::extents(extents)?;
     let lattice = checks::lattice(extents, links)?;
-    checks::finite_pair(gauge::polyakov_loop(lattice.links, extents.d))
+    checks::finite_pair(lattice.polyakov_loop())
 }

@@ -5,6 +5,7 @@ ghost use Rattle.lattice.specs.Answers.{n_sites_call, coords_call, index_call, p
 
 use field_checks::checks;
 use rows::Refusal;
+use steps::Strides;
 
 // The number of sites.
 pub fn n_sites(extents: [usize; 4]) -> Result<usize, Refusal>
@@ -20,7 +21,7 @@ pub fn coords(extents: [usize; 4], site: usize) -> Result<[usize; 4], Refusal>
 {
     let extents = checks::extents(extents)?;
     checks::site(extents, site)?;
-    Ok(geometry::coords(extents.d, site))
+    Ok(extents.coords(site))
 }
 
 // The site at coordinates.
@@ -29,7 +30,7 @@ pub fn index(extents: [usize; 4], coords: [usize; 4]) -> Result<usize, Refusal>
 {
     let extents = checks::extents(extents)?;
     checks::coords(extents, coords)?;
-    Ok(geometry::index(extents.d, coords))
+    Ok(extents.index(coords))
 }
 
 // 0 or 1: whether the coordinates' sum is even or odd.
@@ -38,7 +39,7 @@ pub fn parity(extents: [usize; 4], site: usize) -> Result<usize, Refusal>
 {
     let extents = checks::extents(extents)?;
     checks::site(extents, site)?;
-    Ok(geometry::parity(extents.d, site))
+    Ok(extents.parity(site))
 }
 
 // The next site along a direction.
@@ -48,7 +49,7 @@ pub fn fwd(extents: [usize; 4], site: usize, mu: usize) -> Result<usize, Refusal
     let extents = checks::extents(extents)?;
     checks::site(extents, site)?;
     checks::direction(mu)?;
-    Ok(steps::fwd(extents.d, site, mu))
+    Ok(Strides::new(extents).fwd(site, mu))
 }
 
 // The site before along a direction.
@@ -58,5 +59,5 @@ pub fn bwd(extents: [usize; 4], site: usize, mu: usize) -> Result<usize, Refusal
     let extents = checks::extents(extents)?;
     checks::site(extents, site)?;
     checks::direction(mu)?;
-    Ok(steps::bwd(extents.d, site, mu))
+    Ok(Strides::new(extents).bwd(site, mu))
 }

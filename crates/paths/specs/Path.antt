@@ -38,10 +38,10 @@ field_under w = link_of w.lattice.extents.d w.lattice.links.now
 
 -- a product so far, and the site
 abbrev pub transporter : Su3 → Walker → Transporter
-transporter u w = record { u = u; site = w.at.site }
+transporter u w = record { u = u; site = w.here.at.site }
 
 abbrev pub path_from : Walker → List Step → Transporter
-path_from w steps = path_of w.lattice.extents.d (field_under w) w.at.site steps
+path_from w steps = path_of w.lattice.extents.d (field_under w) w.here.at.site steps
 
 abbrev pub line_from : Walker → ℕ → Transporter
-line_from w t = line_of w.lattice.extents.d (field_under w) w.at.site t
+line_from w t = line_of w.lattice.extents.d (field_under w) w.here.at.site t

@@ -1,4 +1,4 @@
-#![tactic(auto, unfolding(geometry::specs::Steps::spot_of, gauge::specs::Polyakov::later_of, gauge::specs::Polyakov::time_line_of, crate::specs::Path::step_of, crate::specs::Path::path_of, crate::specs::Path::line_of), using(crate::proofs::Strides::sites_last, geometry::proofs::Shape::volume_high, geometry::proofs::Neighbour::fwd_below, geometry::proofs::Neighbour::bwd_below))]
+#![tactic(auto, unfolding(gauge::specs::Polyakov::later_of, gauge::specs::Polyakov::time_line_of, crate::specs::Path::step_of, crate::specs::Path::path_of, crate::specs::Path::line_of), using(geometry::proofs::Stride::sites_last, geometry::proofs::Neighbour::fwd_below, geometry::proofs::Neighbour::bwd_below))]
 
 ghost use Rattle.std.specs.Prelude.{◌≡◌, ◌<◌};
 ghost use Rattle.geometry.specs.Radix.{volume};
@@ -10,44 +10,42 @@ use crate::Walker;
 use gauge::Su3Lattice;
 use mat::Su3;
 use stairs::Stairs;
+use steps::Position;
 
 impl<'a> Walker<'a> {
     // At a site.
     pub fn new(lattice: Su3Lattice<'a>, site: usize) -> Self
         requires { site < volume lattice.extents.d }
         ensures field { result.lattice ≡ lattice.entry }
-        ensures start { result.at.site ≡ site }
+        ensures start { result.here.at.site ≡ site }
     {
-        let d = lattice.extents.d;
-        Walker {
-            lattice,
-            strides: steps::strides(d),
-            at: steps::spot(d, site),
-        }
+        let here = Position::new(lattice.extents, site);
+        Walker { lattice, here }
     }
 
-    // The link of a direction here.
+    // The link of a direction here. The last stride is the number of sites, worked out once.
     fn link(&self, mu: usize) -> Su3
         requires { mu < 4 }
-        ensures { result ≡ field_under self.now mu self.now.at.site }
+        ensures { result ≡ field_under self.now mu self.now.here.at.site }
     {
-        links::link(self.lattice.links, self.strides[4], mu, self.at.site)
+        let v = self.here.strides.s[4];
+        links::link(self.lattice.links, v, mu, self.here.at.site)
     }
 
     fn up(&mut self, mu: usize)
         requires { mu < 4 }
         ensures field { self.new.lattice ≡ self.old.lattice }
-        ensures end { self.new.at.site ≡ fwd_of self.old.lattice.extents.d self.old.at.site mu }
+        ensures end { self.new.here.at.site ≡ fwd_of self.old.lattice.extents.d self.old.here.at.site mu }
     {
-        self.at = steps::up(self.lattice.extents.d, self.strides, self.at, mu);
+        self.here.up(mu);
     }
 
     fn down(&mut self, mu: usize)
         requires { mu < 4 }
         ensures field { self.new.lattice ≡ self.old.lattice }
-        ensures end { self.new.at.site ≡ bwd_of self.old.lattice.extents.d self.old.at.site mu }
+        ensures end { self.new.here.at.site ≡ bwd_of self.old.lattice.extents.d self.old.here.at.site mu }
     {
-        self.at = steps::down(self.lattice.extents.d, self.strides, self.at, mu);
+        self.here.down(mu);
     }
 
     // The product along steps from here, and on to their end.
@@ -85,7 +83,7 @@ impl<'a> Walker<'a> {
     // On along time by t_len steps.
     pub fn later(&mut self, t_len: usize)
         ensures field { self.new.lattice ≡ self.old.lattice }
-        ensures end { self.new.at.site ≡ later_of self.old.lattice.extents.d self.old.at.site t_len }
+        ensures end { self.new.here.at.site ≡ later_of self.old.lattice.extents.d self.old.here.at.site t_len }
     {
         for _ in 0..t_len {
             self.up(0);

@@ -14,8 +14,7 @@ pub fn stout_link(lattice: Su3Lattice<'_>, n: usize, mu: usize, rho: f64, terms:
     requires { (n < volume lattice.extents.d) × (mu < 4) }
     ensures { let d = lattice.entry.extents.d in result ≡ stout_of d (link_of d lattice.entry.links.now) terms rho n mu }
 {
-    let Su3Lattice { extents, links } = lattice;
-    let u = links::link(links, extents.sites(), mu, n);
-    let x = (u * gauge::staple(links, extents.d, n, mu)).traceless_antihermitian();
+    let u = lattice.link(mu, n);
+    let x = (u * lattice.staple(n, mu)).traceless_antihermitian();
     Su3::exp_series(x.scale(-rho), terms).reunitarize() * u
 }

@@ -15,7 +15,7 @@ impl Site<'_> {
         requires { (mu < 4) × (m < volume self.now.lattice.extents.d) }
         ensures { let l = self.now.lattice in result ≡ link_of l.extents.d l.links.now mu m }
     {
-        links::link(self.lattice.links, self.v, mu, m)
+        self.lattice.link(mu, m)
     }
 
     // n + mu
@@ -118,15 +118,9 @@ impl Plane<'_> {
         ensures { let l = self.now.site.now.lattice in result ≡ clover_of l.extents.d (link_of l.extents.d l.links.now) self.now.site.now.n self.now.mu self.now.nu }
     {
         let Plane { site, mu, nu } = *self;
-        let l1 = gauge::plaquette_at(
-            site.lattice.links,
-            site.v,
-            mu,
-            nu,
-            site.n,
-            site.up(mu),
-            site.up(nu),
-        );
+        let l1 = site
+            .lattice
+            .plaquette_at(site.n, mu, nu, site.up(mu), site.up(nu));
         let l2 = self.upper_left();
         let l3 = self.lower_left();
         let l4 = self.lower_right();

@@ -10,6 +10,7 @@ mod densities;
 
 use gauge::Su3Lattice;
 use geometry::Neighbours;
+use steps::Position;
 
 // A density, and for the electric one its axis of space: 0 is x.
 #[derive(Clone, Copy)]
@@ -19,14 +20,12 @@ pub enum Density {
     Electric(usize),
 }
 
-// A site of a field, and the sites next to it; v is the number of sites, worked out once.
+// A site of a field, and the sites next to it.
 #[derive(Clone, Copy)]
 pub struct Site<'a> {
     pub lattice: Su3Lattice<'a>,
     pub n: usize,
     pub near: Neighbours,
-    pub v: usize,
-    ghost sites: { (v ≡ volume lattice.extents.d) × (v ≤ 65536) },
     ghost below: { n < volume lattice.extents.d },
     ghost sides: { near ≡ neighbours_of lattice.extents.d n },
 }
@@ -48,14 +47,8 @@ impl<'a> Site<'a> {
         ensures field { result.lattice ≡ lattice.entry }
         ensures place { result.n ≡ n }
     {
-        let near = steps::neighbours(lattice.extents.d, n);
-        let v = lattice.extents.sites();
-        Site {
-            lattice,
-            n,
-            near,
-            v,
-        }
+        let near = Position::new(lattice.extents, n).neighbours();
+        Site { lattice, n, near }
     }
 
     pub fn plane(&self, mu: usize, nu: usize) -> Plane<'_>

@@ -128,9 +128,6 @@ pub fn new_link(lattice: Su3Lattice<'_>, n: usize, mu: usize) -> Result<Su3, Stu
     requires axis { mu < 4 }
     ensures { result ≡ update_of lattice.entry.extents.d (link_of lattice.entry.extents.d lattice.entry.links.now) n mu }
 {
-    let a = gauge::staple(lattice.links, lattice.extents.d, n, mu);
-    update_link(
-        links::link(lattice.links, lattice.extents.sites(), mu, n),
-        a,
-    )
+    let a = lattice.staple(n, mu);
+    update_link(lattice.link(mu, n), a)
 }

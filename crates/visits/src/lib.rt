@@ -49,7 +49,7 @@ impl LinkSet {
     {
         let mut stuck = 0;
         for k in from..from + count {
-            let site = geometry::nth(self.extents.d, self.parity, k);
+            let site = self.extents.nth(self.parity, k);
             if self.visit(links, site).is_err() {
                 stuck += 1;
             }

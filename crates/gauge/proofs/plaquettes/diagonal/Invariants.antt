@@ -1,9 +1,0 @@
-use Prim.Native.Nat.{◌≤◌}
-use mathlib.Core.Path.{◌≡◌}
-use Rattle.mat.specs.Product.{mul_of}
-use Rattle.links.specs.Lent.{lent_of}
-use Rattle.gauge.proofs.RowProducts.{dot_to}
-use Rattle.gauge.proofs.plaquettes.diagonal.Given as goal
-
-abbrev pub invariant-loop-k : goal.invariant-loop-k
-invariant-loop-k l = (l.k ≤ 3) × (l.s ≡ dot_to (mul_of (lent_of l.a) (lent_of l.b)) (mul_of (lent_of l.c) (lent_of l.e)) l.i l.k)

@@ -1,0 +1,113 @@
+#![tactic(auto, unfolding(geometry::specs::Steps::spot_of), using(crate::proofs::Spots::coord, crate::proofs::Spots::coord_fits, crate::proofs::Spots::spot_within, geometry::proofs::Stride::sites_last, geometry::proofs::Neighbour::fwd_below, geometry::proofs::Neighbour::bwd_below))]
+
+ghost use Rattle.std.specs.Prelude.{◌≡◌, ◌+◌, ◌-◌, ◌%◌, ◌<◌, ◌≤◌};
+ghost use Rattle.geometry.specs.Radix.{volume, next_coords, Within};
+ghost use Rattle.geometry.specs.Steps.{fwd_of, bwd_of, neighbours_of};
+
+use crate::{Position, Strides};
+use geometry::{Extents, Neighbours, Spot};
+
+// The number after c, wrapping at e.
+fn one_up(c: usize, e: usize) -> usize
+    requires { (c < e) × (e ≤ 65536) }
+    ensures { result ≡ (c + 1) % e }
+{
+    if c + 1 < e { c + 1 } else { 0 }
+}
+
+// The number before c, wrapping at e.
+fn one_down(c: usize, e: usize) -> usize
+    requires { (c < e) × (e ≤ 65536) }
+    ensures { result ≡ (c + (e - 1)) % e }
+{
+    if 0 < c { c - 1 } else { e - 1 }
+}
+
+// The coordinates of the site with the next number, from a site's.
+fn next_coords(extents: Extents, c: [usize; 4]) -> [usize; 4]
+    requires { Within extents.d c }
+    ensures { result ≡ next_coords extents.d c }
+{
+    let d = extents.d;
+    if c[0] + 1 < d[0] {
+        return [c[0] + 1, c[1], c[2], c[3]];
+    }
+    if c[1] + 1 < d[1] {
+        return [0, c[1] + 1, c[2], c[3]];
+    }
+    if c[2] + 1 < d[2] {
+        return [0, 0, c[2] + 1, c[3]];
+    }
+    if c[3] + 1 < d[3] {
+        return [0, 0, 0, c[3] + 1];
+    }
+    [0, 0, 0, 0]
+}
+
+impl Position {
+    pub fn new(extents: Extents, site: usize) -> Self
+        requires { site < volume extents.d }
+        ensures field { result.strides.extents ≡ extents }
+        ensures start { result.at.site ≡ site }
+    {
+        Self {
+            strides: Strides::new(extents),
+            at: extents.spot(site),
+        }
+    }
+
+    // All neighbours.
+    pub fn neighbours(&self) -> Neighbours
+        ensures { result ≡ neighbours_of self.now.strides.extents.d self.now.at.site }
+    {
+        let Spot { site, at } = self.at;
+        let mut up = [0usize; 4];
+        let mut down = [0usize; 4];
+        for mu in 0..4 {
+            up[mu] = self.strides.up(site, at[mu], mu);
+            down[mu] = self.strides.down(site, at[mu], mu);
+        }
+        Neighbours { up, down }
+    }
+
+    // To the next site along an axis.
+    pub fn up(&mut self, mu: usize)
+        requires { mu < 4 }
+        ensures field { self.new.strides ≡ self.old.strides }
+        ensures end { self.new.at.site ≡ fwd_of self.old.strides.extents.d self.old.at.site mu }
+    {
+        let Spot { site, mut at } = self.at;
+        let c = at[mu];
+        at[mu] = one_up(c, self.strides.extents.d[mu]);
+        self.at = Spot {
+            site: self.strides.up(site, c, mu),
+            at,
+        };
+    }
+
+    // To the site before along an axis.
+    pub fn down(&mut self, mu: usize)
+        requires { mu < 4 }
+        ensures field { self.new.strides ≡ self.old.strides }
+        ensures end { self.new.at.site ≡ bwd_of self.old.strides.extents.d self.old.at.site mu }
+    {
+        let Spot { site, mut at } = self.at;
+        let c = at[mu];
+        at[mu] = one_down(c, self.strides.extents.d[mu]);
+        self.at = Spot {
+            site: self.strides.down(site, c, mu),
+            at,
+        };
+    }
+
+    // To the site with the next number, from the last to the first.
+    pub fn next(&mut self)
+        ensures field { self.new.strides ≡ self.old.strides }
+        ensures end { self.new.at.site ≡ (self.old.at.site + 1) % volume self.old.strides.extents.d }
+    {
+        self.at = Spot {
+            site: one_up(self.at.site, self.strides.s[4]),
+            at: next_coords(self.strides.extents, self.at.at),
+        };
+    }
+}
