@@ -72,10 +72,22 @@ impl Square<'_> {
         ensures { let l = self.now.links.now in result ≡ re_tr (mul_dag_of (mul_of (matrix_at l self.now.a) (matrix_at l self.now.b)) (mul_of (matrix_at l self.now.c) (matrix_at l self.now.e))) }
     {
         let links = self.links;
-        let a = Lent { links, place: self.a };
-        let b = Lent { links, place: self.b };
-        let c = Lent { links, place: self.c };
-        let e = Lent { links, place: self.e };
+        let a = Lent {
+            links,
+            place: self.a,
+        };
+        let b = Lent {
+            links,
+            place: self.b,
+        };
+        let c = Lent {
+            links,
+            place: self.c,
+        };
+        let e = Lent {
+            links,
+            place: self.e,
+        };
         first_two(a, b, c, e) + diagonal(a, b, c, e, 2)
     }
 }
