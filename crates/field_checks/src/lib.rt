@@ -27,6 +27,7 @@ pub fn extents_row(d: [usize; 4]) -> u32
     0
 }
 
+// The number of sites, of extents that a row has passed.
 #[tactic(auto, using(geometry::proofs::Shape::volume_pos, geometry::proofs::Shape::volume_high))]
 fn sites(d: [usize; 4]) -> usize
     requires { Shape d }
