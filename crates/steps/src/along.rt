@@ -21,7 +21,8 @@ impl Strides {
         }
     }
 
-    // The next site along an axis, wrapping: c is the site's coordinate there.
+    // The next site along an axis, wrapping: c is the site's coordinate there. Up and down stay two: one
+    // with a flag would have both bodies.
     pub(crate) fn up(&self, n: usize, c: usize, mu: usize) -> usize
         requires { (n < volume self.now.extents.d) × (mu < 4) × (c ≡ get_or (coords_of self.now.extents.d n) mu 0) }
         ensures { result ≡ fwd_of self.now.extents.d n mu }
