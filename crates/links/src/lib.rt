@@ -50,7 +50,7 @@ fn put(links: &mut [f64], p: usize, c: C64)
     links[p + 1] = c.im;
 }
 
-// The matrix at a place.
+// The matrix at a place. By a loop: `from_fn` says too little of a closure that reads a list.
 #[tactic(auto, unfolding(crate::specs::Store::matrix_at))]
 fn load(links: &[f64], p: usize) -> Su3
     requires { p + 18 ≤ length links.now }
@@ -69,9 +69,8 @@ pub fn store(links: &mut [f64], p: usize, u: Su3)
     requires { p + 18 ≤ length links.old }
     ensures { links.new ≡ with_matrix links.old p u }
 {
-    let m = u.m;
-    for k in 0..9 {
-        put(links, p + 2 * k, m[k]);
+    for (k, c) in u.m.iter().enumerate() {
+        put(links, p + 2 * k, *c);
     }
 }
 

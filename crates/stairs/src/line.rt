@@ -16,11 +16,8 @@ pub struct Line {
 fn dot_product(p: [i32; 3], d: [i32; 3]) -> f64
     ensures { result ≡ dot p d }
 {
-    let mut s = 0.0;
-    for a in 0..3 {
-        s += f64::from(p[a]) * f64::from(d[a]);
-    }
-    s
+    let along = |a: usize| f64::from(p[a]) * f64::from(d[a]);
+    0.0 + along(0) + along(1) + along(2)
 }
 
 impl Line {
@@ -38,12 +35,11 @@ impl Line {
         ensures { result ≡ line_dist p self.d }
     {
         let t = dot_product(p, self.d) / self.dd;
-        let mut s = 0.0;
-        for a in 0..3 {
+        let square = |a: usize| {
             let e = f64::from(p[a]) - t * f64::from(self.d[a]);
-            s += e * e;
-        }
-        s
+            e * e
+        };
+        0.0 + square(0) + square(1) + square(2)
     }
 
     // The axis of the step that keeps nearest to the line: of equally near ones the first.
