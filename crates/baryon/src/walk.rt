@@ -45,7 +45,7 @@ pub fn path<S: Copy + Into<Step>>(
     let steps = steps_of(steps)?;
     let mut walker = Walker::new(lattice, site);
     let u = walker.path(&steps);
-    Ok((checks::finite_matrix(u)?, walker.here.at.site))
+    Ok((checks::finite(u)?, walker.here.at.site))
 }
 
 // The product of t_len links along time from a site, and where it ends.
@@ -63,5 +63,5 @@ pub fn time_line(
     stairs::checks::time(t_len)?;
     let mut walker = Walker::new(lattice, site);
     let u = walker.time_line(t_len);
-    Ok((checks::finite_matrix(u)?, walker.here.at.site))
+    Ok((checks::finite(u)?, walker.here.at.site))
 }

@@ -1,16 +1,15 @@
 // What a call is handed, judged: each check is a row of the table.
-#![tactic(auto, unfolding(rows::specs::Refusals::first_refusal, rows::specs::Refusals::refusal_in, crate::specs::Situations::bad_extents, crate::specs::Situations::bad_coupling, crate::specs::Situations::bad_links, crate::specs::Situations::bad_site, crate::specs::Situations::bad_direction, crate::specs::Situations::bad_plane, crate::specs::Situations::bad_coords, folds::specs::Folds::all_below, crate::specs::Situations::bad_room, crate::specs::Situations::bad_number, crate::specs::Situations::bad_pair, crate::specs::Situations::bad_matrix, rows::specs::Refusals::answered))]
+#![tactic(auto, unfolding(rows::specs::Refusals::first_refusal, rows::specs::Refusals::refusal_in, crate::specs::Situations::bad_extents, crate::specs::Situations::bad_coupling, crate::specs::Situations::bad_links, crate::specs::Situations::bad_site, crate::specs::Situations::bad_direction, crate::specs::Situations::bad_plane, crate::specs::Situations::bad_coords, folds::specs::Folds::all_below, crate::specs::Situations::bad_room))]
 
 ghost use Rattle.std.specs.Prelude.{◌≡◌, ◌*◌, ◌<◌, ◌≤◌, [], ◌∷◌, length};
-ghost use Rattle.rows.specs.Refusals.{Checked, first_refusal, answered};
+ghost use Rattle.rows.specs.Refusals.{Checked};
 ghost use Rattle.geometry.specs.Radix.{volume, Within};
 ghost use Rattle.rows.specs.declared.Refusal.{Refusal};
-ghost use Rattle.field_checks.specs.Situations.{bad_extents, bad_coupling, bad_links, bad_site, bad_coords, bad_direction, bad_plane, bad_room, bad_number, bad_pair, bad_matrix};
+ghost use Rattle.field_checks.specs.Situations.{bad_extents, bad_coupling, bad_links, bad_site, bad_coords, bad_direction, bad_plane, bad_room};
 
-use complex::C64;
+pub use crate::finite::finite;
 use gauge::Su3Lattice;
 use geometry::Extents;
-use mat::Su3;
 use rows::Refusal;
 
 pub fn extents(d: [usize; 4]) -> Result<Extents, Refusal>
@@ -88,35 +87,5 @@ pub fn room(extents: Extents, room: usize) -> Result<(), Refusal>
         Err(Refusal::Room)
     } else {
         Ok(())
-    }
-}
-
-pub fn finite(x: f64) -> Result<f64, Refusal>
-    ensures { result ≡ answered (first_refusal ((bad_number x, Refusal.NotFinite) ∷ [])) x }
-{
-    if rows::is_finite(x) {
-        Ok(x)
-    } else {
-        Err(Refusal::NotFinite)
-    }
-}
-
-pub fn finite_pair(z: C64) -> Result<C64, Refusal>
-    ensures { result ≡ answered (first_refusal ((bad_pair z, Refusal.NotFinite) ∷ [])) z }
-{
-    if z.is_finite() {
-        Ok(z)
-    } else {
-        Err(Refusal::NotFinite)
-    }
-}
-
-pub fn finite_matrix(u: Su3) -> Result<Su3, Refusal>
-    ensures { result ≡ answered (first_refusal ((bad_matrix u, Refusal.NotFinite) ∷ [])) u }
-{
-    if u.is_finite() {
-        Ok(u)
-    } else {
-        Err(Refusal::NotFinite)
     }
 }

@@ -2,3 +2,6 @@
 // finite.
 
 pub mod checks;
+mod finite;
+
+pub use finite::Numeric;

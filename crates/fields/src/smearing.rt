@@ -29,7 +29,7 @@ pub fn stout_link(
     let lattice = checks::lattice(extents, links)?;
     checks::site(extents, site)?;
     checks::direction(mu)?;
-    checks::finite_matrix(stout::stout_link(lattice, site, mu, rho, TERMS))
+    checks::finite(stout::stout_link(lattice, site, mu, rho, TERMS))
 }
 
 // The smeared links of a field, by direction, then site.

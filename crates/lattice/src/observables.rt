@@ -23,7 +23,7 @@ pub fn plaquette(
     let lattice = checks::lattice(extents, links)?;
     checks::site(extents, site)?;
     checks::plane(mu, nu)?;
-    checks::finite_matrix(lattice.plaquette(site, mu, nu))
+    checks::finite(lattice.plaquette(site, mu, nu))
 }
 
 // The sum of the six staples around a link.
@@ -35,7 +35,7 @@ pub fn staple(plan: Plan, site: usize, mu: usize, links: &[f64]) -> Result<Su3, 
     let lattice = checks::lattice(extents, links)?;
     checks::site(extents, site)?;
     checks::direction(mu)?;
-    checks::finite_matrix(lattice.staple(site, mu))
+    checks::finite(lattice.staple(site, mu))
 }
 
 // ⟨Re Tr U_P⟩ / 3, averaged over all sites and the six planes.
@@ -63,5 +63,5 @@ pub fn polyakov_loop(extents: [usize; 4], links: &[f64]) -> Result<C64, Refusal>
 {
     let extents = checks::extents(extents)?;
     let lattice = checks::lattice(extents, links)?;
-    checks::finite_pair(lattice.polyakov_loop())
+    checks::finite(lattice.polyakov_loop())
 }

@@ -1,0 +1,52 @@
+#![tactic(auto, unfolding(rows::specs::Refusals::first_refusal, rows::specs::Refusals::answered, crate::specs::Situations::bad_number, crate::specs::Situations::bad_pair, crate::specs::Situations::bad_matrix))]
+
+ghost use Rattle.std.specs.Prelude.{◌≡◌, [], ◌∷◌, not, Bool};
+ghost use Rattle.rows.specs.Refusals.{first_refusal, answered};
+ghost use Rattle.rows.specs.declared.Refusal.{Refusal};
+ghost use Rattle.field_checks.specs.Situations.{bad_number, bad_pair, bad_matrix};
+
+use complex::C64;
+use mat::Su3;
+use rows::Refusal;
+
+// What row 10 judges: a number, or what is made of numbers.
+pub trait Numeric: Copy {
+    ghost bad: { Self → Bool };
+
+    fn is_finite(self) -> bool
+        ensures { result ≡ not (bad self) };
+}
+
+impl Numeric for f64 {
+    ghost bad = { bad_number };
+
+    fn is_finite(self) -> bool {
+        rows::is_finite(self)
+    }
+}
+
+impl Numeric for C64 {
+    ghost bad = { bad_pair };
+
+    fn is_finite(self) -> bool {
+        C64::is_finite(self)
+    }
+}
+
+impl Numeric for Su3 {
+    ghost bad = { bad_matrix };
+
+    fn is_finite(self) -> bool {
+        Su3::is_finite(self)
+    }
+}
+
+pub fn finite<T: Numeric>(x: T) -> Result<T, Refusal>
+    ensures { result ≡ answered (first_refusal ((T.bad x, Refusal.NotFinite) ∷ [])) x }
+{
+    if x.is_finite() {
+        Ok(x)
+    } else {
+        Err(Refusal::NotFinite)
+    }
+}
