@@ -1,8 +1,10 @@
 #![tactic(auto, unfolding(rows::specs::Refusals::first_refusal, rows::specs::Refusals::refusal_in, rows::specs::Refusals::answered, rows::specs::Refusals::unless, crate::specs::Situations::bad_step_room))]
 
-ghost use Rattle.std.specs.Prelude.{◌≤◌, IfOk};
+ghost use Rattle.std.specs.Prelude.{◌≡◌, ◌≤◌, length, IfOk};
+ghost use Rattle.rows.specs.Refusals.{answered};
+ghost use Rattle.stairs.specs.Staircase.{steps_to};
 ghost use Rattle.stairs.specs.declared.Step.{Step};
-ghost use Rattle.baryon.specs.Calls.{Gives, StaircaseCall};
+ghost use Rattle.baryon.specs.Calls.{Gives, staircase_refusal, StaircaseCall};
 
 use rows::Refusal;
 use stairs::Step;
@@ -10,6 +12,7 @@ use stairs::Step;
 // The steps of the staircase to an offset, at the front of a list, and their number. What stands for a
 // step may be a byte.
 pub fn staircase<S: Copy + From<Step>>(d: [i32; 3], steps: &mut [S]) -> Result<usize, Refusal>
+    ensures answer { result ≡ answered (staircase_refusal d (length steps.old)) (steps_to d) }
     ensures laid { (code : Step → S) → Gives S.from_gives code → StaircaseCall code d steps.old result steps.new }
     ensures few { IfOk result (λ n. n ≤ 96) }
 {

@@ -1,5 +1,5 @@
 -- A density's cells, part of the grid's list, make its correlation.
-use Rattle.std.proofs.Common.{Result, None, refl, ℕ, ◌+◌, ◌*◌, ◌≤◌, List, map, length, ◌≡◌, ◌∙◌, sym, ap, ext_get_or, arith, take, drop, ◌<◌, length-take-le}
+use Rattle.std.proofs.Common.{None, Ok, Err, true, false, refl, suc, suc-mul, mul-le-mul, ℕ, ◌+◌, ◌*◌, ◌≤◌, List, map, length, ◌≡◌, ◌∙◌, sym, ap, ext_get_or, arith, take, drop, ◌<◌, length-take-le}
 use Rattle.std.proofs.Math.Nat.{add-sub_cancel_left}
 use Rattle.std.proofs.lemmas.List.{length-map, get_or-map, get_or-drop, get_or-take, length-drop}
 use Rattle.std.specs.List.{slice_range}
@@ -11,7 +11,8 @@ use Rattle.geometry.proofs.Range.{length-listed, listed_at}
 use Rattle.slices.specs.Slices.{number}
 use Rattle.rows.specs.declared.Refusal.{Refusal}
 use Rattle.rows.specs.Refusals.{first_refusal, finally, answered, unless}
-use Rattle.sums.specs.Means.{ratio, ratios_refusal}
+use Rattle.rows.specs.Finite.{finite_numbers, bad_numbers}
+use Rattle.sums.specs.Means.{ratio}
 use Rattle.flux.specs.declared.FluxAccumulator.{FluxAccumulator}
 use Rattle.flux.specs.Situations.{correlation_rows}
 use Rattle.flux.specs.Calls.{correlation_refusal, CorrelationCall}
@@ -30,14 +31,21 @@ part_mapped f l first n h =
     ∙ ap f (get_or-take n (drop first l) k nan below ∙ get_or-drop first l k nan)
     ∙ sym (listed_at _ nan n k below)))
 
-pub correlations_are : (acc : FluxAccumulator) (k : ℕ) (grid : List Float) {samples means : Float} {first cells : ℕ} → samples ≡ as_float acc.samples → means ≡ means_of acc k → first ≡ k * cells → cells ≡ volume acc.n → first + cells ≤ length grid
+-- a density's cells are in the grid's list
+part_in : {k count len : ℕ} (cells : ℕ) → k < count → len ≡ count * cells → k * cells + cells ≤ len
+part_in {k} {count} cells below len = omega (arith, mul-le-mul {n₁ = suc k} {m₁ = cells} {m₂ = cells} below (omega arith), suc-mul k cells, len)
+
+pub correlations_are : (acc : FluxAccumulator) (k : ℕ) (grid : List Float) {samples means : Float} {first cells : ℕ} → samples ≡ as_float acc.samples → means ≡ means_of acc k → first ≡ k * cells → cells ≡ volume acc.n → k < acc.count → length grid ≡ acc.count * cells
     → map (ratio samples means) (slice_range grid first (first + cells)) ≡ correlation_list acc k grid
 unfolding correlation_list correlation_at
-correlations_are acc k grid {samples} {means} {first} {cells} a b c d h = part_mapped (ratio samples means) grid first cells h ∙ rw (c, a, b, d)
+correlations_are acc k grid {samples} {means} {first} {cells} a b c d below len = part_mapped (ratio samples means) grid first cells (rw c (part_in cells below len)) ∙ rw (c, a, b, d)
 
--- the answer of an accepted call, row 10 apart
-pub correlation_made : (acc : FluxAccumulator) (k : ℕ) (grid out : List Float) (samples means : Float) (sums : List Float) {r : Result (Unit {0}) Refusal} {exit : List Float} → first_refusal (correlation_rows acc k (length grid) (length out)) ≡ None
-    → map (ratio samples means) sums ≡ correlation_list acc k grid
-    → r ≡ answered (ratios_refusal samples means sums) tt → exit ≡ unless (ratios_refusal samples means sums) (map (ratio samples means) sums) out → CorrelationCall acc k grid out r exit
-unfolding correlation_refusal ratios_refusal finally
-correlation_made acc k grid out samples means sums none are a l = record { answer = a ∙ rw (none, are) refl; list = l ∙ rw (none, are) refl }
+-- a call that no row refuses before row 10
+module _ (acc : FluxAccumulator) (k : ℕ) (grid out : List Float) (f : Float → Float) (sums : List Float) (none : first_refusal (correlation_rows acc k (length grid) (length out)) ≡ None) (are : map f sums ≡ correlation_list acc k grid) where
+  pub correlation_refused : finite_numbers (map f sums) ≡ false → CorrelationCall acc k grid out (Err Refusal.NotFinite) out
+  unfolding correlation_refusal finally first_refusal answered unless bad_numbers
+  correlation_refused h = let bad = rw are at h in record { answer = rw (none, bad) refl; list = rw (none, bad) refl }
+
+  pub correlation_made : {exit : List Float} → finite_numbers (map f sums) ≡ true → exit ≡ map f sums → CorrelationCall acc k grid out (Ok tt) exit
+  unfolding correlation_refusal finally first_refusal answered unless bad_numbers
+  correlation_made h e = let good = rw are at h in record { answer = rw (none, good) refl; list = rw (none, good) (e ∙ are) }

@@ -6,7 +6,7 @@ ghost use Rattle.flux.specs.Calls.{mean_call, CorrelationCall};
 
 use crate::{FluxAccumulator, checks};
 use rows::Refusal;
-use sums::mean;
+use sums::{mean, ratios_finite, store_ratios};
 
 impl FluxAccumulator {
     // The mean of the loops so far.
@@ -46,6 +46,11 @@ impl FluxAccumulator {
         }
         let samples = std::num::nearest_u64_to_f64(self.samples);
         let first = k as usize * cells;
-        sums::store_ratios(&grid[first..first + cells], samples, means, out)
+        let sums = &grid[first..first + cells];
+        if !ratios_finite(sums, samples, means) {
+            return Err(Refusal::NotFinite);
+        }
+        store_ratios(sums, samples, means, out);
+        Ok(())
     }
 }

@@ -5,7 +5,7 @@ ghost use Rattle.geometry.specs.Radix.{volume};
 ghost use Rattle.geometry.specs.Steps.{fwd_of, neighbours_of};
 ghost use Rattle.links.specs.Field.{place_of};
 ghost use Rattle.gauge.specs.Field.{link_of};
-ghost use Rattle.gauge.specs.Plaquette.{plaquette_of, planes_sum, average_of, action_of};
+ghost use Rattle.gauge.specs.Plaquette.{plaquette_at, plaquette_of, planes_sum, average_of, action_of};
 
 use crate::Su3Lattice;
 use crate::traces::Square;
@@ -14,10 +14,11 @@ use mat::Su3;
 use steps::{Position, Strides};
 
 impl Su3Lattice<'_> {
-    // The links around the plaquette in the plane of mu and nu at n: f is n + mu, g is n + nu.
+    // The links around a plaquette at n in the plane of mu and nu, where f and g are the other two corners
+    // beside n.
     fn square(&self, n: usize, mu: usize, nu: usize, f: usize, g: usize) -> Square<'_>
         requires plane { (n < volume self.now.extents.d) × (mu < 4) × (nu < 4) }
-        requires sides { (f ≡ fwd_of self.now.extents.d n mu) × (g ≡ fwd_of self.now.extents.d n nu) }
+        requires sides { (f < volume self.now.extents.d) × (g < volume self.now.extents.d) }
         ensures list { result.links.now ≡ self.now.links.now }
         ensures places { let v = volume self.now.extents.d in (result.a ≡ place_of v mu n) × (result.b ≡ place_of v nu f) × (result.c ≡ place_of v nu n) × (result.e ≡ place_of v mu g) }
     {
@@ -30,11 +31,11 @@ impl Su3Lattice<'_> {
         }
     }
 
-    // The plaquette in the plane of mu and nu at n: f is n + mu, g is n + nu.
+    // The plaquette at n in the plane of mu and nu, where f stands for n + mu and g for n + nu.
     pub fn plaquette_at(&self, n: usize, mu: usize, nu: usize, f: usize, g: usize) -> Su3
         requires plane { (n < volume self.now.extents.d) × (mu < 4) × (nu < 4) }
-        requires sides { (f ≡ fwd_of self.now.extents.d n mu) × (g ≡ fwd_of self.now.extents.d n nu) }
-        ensures { let d = self.now.extents.d in result ≡ plaquette_of d (link_of d self.now.links.now) n mu nu }
+        requires sides { (f < volume self.now.extents.d) × (g < volume self.now.extents.d) }
+        ensures { result ≡ plaquette_at (link_of self.now.extents.d self.now.links.now) mu nu n f g }
     {
         self.square(n, mu, nu, f, g).product()
     }
@@ -49,7 +50,7 @@ impl Su3Lattice<'_> {
     }
 
     // The sum of the six traces at a site.
-    #[tactic(auto, unfolding(crate::specs::Plaquette::planes_sum, crate::specs::Plaquette::plaquette_of), using(geometry::proofs::Neighbour::near_up))]
+    #[tactic(auto, unfolding(crate::specs::Plaquette::planes_sum, crate::specs::Plaquette::plaquette_of), using(geometry::proofs::Neighbour::fwd_below, geometry::proofs::Neighbour::near_up))]
     fn planes_sum(&self, n: usize, near: &Neighbours) -> f64
         requires below { n < volume self.now.extents.d }
         requires sides { near.now ≡ neighbours_of self.now.extents.d n }

@@ -6,4 +6,4 @@ mod ending;
 mod means;
 
 pub use ending::{more_samples, store};
-pub use means::{mean, store_ratios};
+pub use means::{mean, ratios_finite, store_ratios};

@@ -1,12 +1,8 @@
-#![tactic(auto, unfolding(rows::specs::Refusals::first_refusal, rows::specs::Refusals::answered, rows::specs::Refusals::unless, rows::specs::Finite::bad_numbers, crate::specs::Means::mean_of, crate::specs::Means::ratios_refusal))]
+#![tactic(auto, unfolding(crate::specs::Means::mean_of))]
 
 ghost use Rattle.std.specs.Prelude.{◌≡◌, length, map};
-ghost use Rattle.std.specs.Float.Ieee.Scale.{finite};
-ghost use Rattle.std.specs.List.{list_all};
-ghost use Rattle.rows.specs.Refusals.{answered, unless};
-ghost use Rattle.sums.specs.Means.{mean_of, ratio, ratios_refusal};
-
-use rows::Refusal;
+ghost use Rattle.rows.specs.Finite.{finite_numbers};
+ghost use Rattle.sums.specs.Means.{mean_of, ratio};
 
 // A sum over the number of samples.
 pub fn mean(sum: f64, samples: u64) -> f64
@@ -22,26 +18,21 @@ fn ratio(samples: f64, means: f64, sum: f64) -> f64
     sum / samples / means
 }
 
-// Whether the ratios are finite, by working them out.
-fn ratios_finite(sums: &[f64], samples: f64, means: f64) -> bool
-    ensures { result ≡ list_all (λ sum. finite (ratio samples means sum)) sums.now }
+// Whether the ratios of all sums are finite, by working them out.
+pub fn ratios_finite(sums: &[f64], samples: f64, means: f64) -> bool
+    ensures { result ≡ finite_numbers (map (ratio samples means) sums.now) }
 {
     sums.iter()
         .all(|sum| rows::is_finite(ratio(samples, means, *sum)))
 }
 
-// Writes the ratios of sums where all are finite: first each is tested, and then worked out again and stored.
-#[tactic(auto, using(crate::proofs::Laws::finite_mapped), unfolding(folds::specs::Folds::fill, rows::specs::Refusals::first_refusal, rows::specs::Refusals::answered, rows::specs::Refusals::unless, rows::specs::Finite::bad_numbers, crate::specs::Means::ratios_refusal))]
-pub fn store_ratios(sums: &[f64], samples: f64, means: f64, out: &mut [f64]) -> Result<(), Refusal>
+// Stores them.
+#[tactic(auto, unfolding(folds::specs::Folds::fill))]
+pub fn store_ratios(sums: &[f64], samples: f64, means: f64, out: &mut [f64])
     requires { length out.old ≡ length sums.now }
-    ensures answer { result ≡ answered (ratios_refusal samples means sums.now) tt }
-    ensures list { out.new ≡ unless (ratios_refusal samples means sums.now) (map (ratio samples means) sums.now) out.old }
+    ensures { out.new ≡ map (ratio samples means) sums.now }
 {
-    if !ratios_finite(sums, samples, means) {
-        return Err(Refusal::NotFinite);
-    }
     for (i, x) in out.iter_mut().enumerate() {
         *x = ratio(samples, means, sums[i]);
     }
-    Ok(())
 }

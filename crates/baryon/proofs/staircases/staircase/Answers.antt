@@ -37,3 +37,9 @@ returns-clause-laid g c = λ code h.
     let laid = c.loop-i.invariant.laid code h in
     let all = c.as_slice-all.ensures.steps ∙ c.staircase-stairs.ensures in
     grind (arith, common_steps)
+
+pub returns-clause-answer : goal.returns-clause-answer
+unfolding first_refusal refusal_in answered bad_step_room
+returns-clause-answer g c =
+    let len = ap length (c.as_slice-all.ensures.steps ∙ c.staircase-stairs.ensures) ∙ length-staircase c.args.d in
+    grind (arith, common_steps)
