@@ -11,7 +11,7 @@ use Rattle.complex.specs.Rounded.{as_float}
 unfoldable pub mean_of : Float → ℕ → Float
 mean_of sum samples = div binary64 sum (as_float samples)
 
--- a cell's mean over the samples and over the product of the means, both as f64
+-- a cell's sum over the samples and over the product of the means, both as f64
 abbrev pub ratio : Float → Float → Float → Float
 ratio samples means sum = div binary64 (div binary64 sum samples) means
 
