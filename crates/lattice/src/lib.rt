@@ -1,5 +1,5 @@
 // A gauge field in a lent list: each call checks what it is handed by the rows of its table, in
-// order, and answers the row's number or what its definition says.
+// order, and answers the refusal or what its definition says.
 #![tactic(auto)]
 
 mod check;
