@@ -132,10 +132,6 @@ module _ (d : List ℤ) where
       let n = next i h (best_of (place_at d i) d) (best_low (place_at d i) d) (some_left d (place_at d i) h.between (rw h.steps (omega arith))) in
       record { between = n.0; steps = n.1 ∙ add-one i }
 
-  -- where steps are left, the place is not the offset
-  pub not_there : (i : ℕ) {p : List ℤ} → i < steps_to d → p ≡ place_at d i → p ≡ d → ⊥
-  not_there i l e same = let h = on_the_way i (omega arith) in omega (arith, ap steps_to (sym same ∙ e) ∙ h.steps)
-
   left_along : (i : ℕ) → i < steps_to d → differs (along_of (place_at d i) (best_of (place_at d i) d)) (along_of d (best_of (place_at d i) d)) ≡ true
   left_along i l = let h = on_the_way i (omega arith) in some_left d (place_at d i) h.between (rw h.steps l)
 

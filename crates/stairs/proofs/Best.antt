@@ -1,7 +1,6 @@
 -- The best axis so far, axis by axis, is in the end the first of the nearest ones.
-use Rattle.std.proofs.Common.{ℕ, zero, suc, ◌+◌, ◌<◌, Bool, true, false, cond, List, [], ◌∷◌, ◌≡◌, refl, ap, sym, ◌∙◌, ℤ, Option, None, Some, MatchOption, arith, add-one, w32, SFits, of_z, true≢false, pos, length, ext_get_or, IsSome, rules}
+use Rattle.std.proofs.Common.{ℕ, zero, suc, ◌+◌, ◌<◌, Bool, true, false, cond, List, [], ◌∷◌, ◌≡◌, refl, ap, sym, ◌∙◌, ℤ, Option, None, Some, MatchOption, arith, add-one, w32, SFits, of_z, true≢false}
 use Rattle.std.proofs.lemmas.Int.{ints}
-use native.Mathlib.Decide.{ℕ_discrete}
 use mathlib.Core.List.{cons≢nil}
 use Rattle.std.specs.Float.Ieee.{Float, lt}
 use Rattle.folds.proofs.Few.{below_three}
@@ -24,10 +23,6 @@ differs_lem x y f g ne = grind (arith, ints)
 pub same_lem : (x y : ℤ) → SFits w32 x → SFits w32 y → of_z w32 x ≡ of_z w32 y → differs x y ≡ false
 unfolding differs
 same_lem x y f g e = grind (arith, ints)
-
-equal_lem : (x y : ℤ) → differs x y ≡ false → x ≡ y
-unfolding differs
-equal_lem x y e = grind (arith, ints)
 
 module _ (p d : List ℤ) where
   -- an axis counts if something is left along it
@@ -105,27 +100,12 @@ module _ (p d : List ℤ) where
   unfolding best_below best_of
   best_below_three = begins (0 ∷ 1 ∷ 2 ∷ [])
 
-  pub best_found : {a : ℕ} {best : ℕ × Float} → a ≡ 3 → Some best ≡ best_below a → best.0 ≡ best_of p d
-  best_found e h = ap axis_of (h ∙ ap best_below e) ∙ best_below_three
-
-  -- where none was found, nothing is left
-  none_along : (n : ℕ) → best_below n ≡ None → (a : ℕ) → a < n → differs (along_of p a) (along_of d a) ≡ false
-  unfolding best_below
-  none_along zero e a l = absurd (omega arith)
-  none_along (suc n) e a l = go (differs (along_of p n) (along_of d n)) refl (λ h. none_along n h a) e
+  pub best_found : {best : Option (ℕ × Float)} {a n : ℕ} → a ≡ 3 → best ≡ best_below a → MatchOption best (n ≡ 0) (λ x. n ≡ x.0) → n ≡ best_of p d
+  best_found {best} {a} {n} e h found = go best found ∙ ap axis_of (h ∙ ap best_below e) ∙ best_below_three
     where
-      go : (b : Bool) → differs (along_of p n) (along_of d n) ≡ b → (best_below n ≡ None → a < n → differs (along_of p a) (along_of d a) ≡ false)
-          → cond b (Some (better_of (best_below n) n (step_dist p d n))) (best_below n) ≡ None
-          → differs (along_of p a) (along_of d a) ≡ false
-      go true f less h = absurd cc
-      go false f less h = elim (ℕ_discrete a n) [ yes same ↦ rw same f | no other ↦ less h (omega arith) ]
-
-  -- so one is found where the place is not the offset
-  pub found : length p ≡ 3 → length d ≡ 3 → {a : ℕ} {o : Option (ℕ × Float)} → a ≡ 3 → o ≡ best_below a → (p ≡ d → ⊥) → IsSome o
-  found three other {o = None} e h left =
-      let none = sym (h ∙ ap best_below e) in
-      absurd (left (ext_get_or (pos 0) p d (three ∙ sym other) (λ a l. equal_lem _ _ (none_along 3 none a (omega arith)))))
-  found three other {o = Some x} e h left = search rules
+      go : (best : Option (ℕ × Float)) → MatchOption best (n ≡ 0) (λ x. n ≡ x.0) → n ≡ axis_of best
+      go None h = h
+      go (Some x) h = h
 
 -- ## it is one of them
 

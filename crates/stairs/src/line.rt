@@ -1,6 +1,6 @@
 #![tactic(auto, unfolding(folds::specs::Folds::fold_to, crate::specs::Line::dot, crate::specs::Line::line_dist, crate::proofs::Best::best_below))]
 
-ghost use Rattle.std.specs.Prelude.{◌≡◌, ◌≢◌, ◌<◌};
+ghost use Rattle.std.specs.Prelude.{◌≡◌, ◌<◌};
 ghost use Rattle.stairs.specs.Line.{dot, line_dist};
 ghost use Rattle.stairs.specs.Staircase.{best_of, Reached};
 
@@ -42,10 +42,10 @@ impl Line {
         0.0 + square(0) + square(1) + square(2)
     }
 
-    // The axis of the step that keeps nearest to the line: of equally near ones the first.
+    // The axis of the step that keeps nearest to the line: of equally near ones the first. At the offset
+    // itself no step is left, and the definition has 0.
     pub fn best_axis(self, p: [i32; 3]) -> usize
-        requires reached { Reached p }
-        requires left { p ≢ self.d }
+        requires { Reached p }
         ensures axis { result ≡ best_of p self.d }
         ensures in_space { result < 3 }
     {
@@ -60,6 +60,6 @@ impl Line {
                 }
             }
         }
-        best.unwrap().0
+        best.map_or(0, |(a, _)| a)
     }
 }

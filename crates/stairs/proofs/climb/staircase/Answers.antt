@@ -3,15 +3,11 @@ use Rattle.geometry.specs.Range.{range}
 use Rattle.stairs.specs.Staircase.{step_along}
 use Rattle.stairs.proofs.Whole.{moved}
 use Rattle.stairs.proofs.Places.{place_none, place_next, near, steps_low, laid_next, laid_few}
-use Rattle.stairs.proofs.Arrives.{not_there}
 use Rattle.stairs.proofs.climb.staircase.Goals as goal
 
 pub loop-init : goal.loop-init
 unfolding range
 loop-init c = record { laid = c.new-steps.ensures; here = place_none _; reached = near c.args.d 0 (place_none _) (omega arith) }
-
-pub best_axis-a-requires-clause-left : goal.best_axis-a-requires-clause-left
-best_axis-a-requires-clause-left c = λ same. not_there c.args.d c.loop.counter (rw (← c.steps_to-end.ensures) c.loop-test.true) c.loop.invariant.here (rw (← c.to-line.ensures) same)
 
 pub push-requires-clause-room : goal.push-requires-clause-room
 push-requires-clause-room c = laid_few _ _ c.requires (rw (← c.steps_to-end.ensures) c.loop-test.true) c.loop.invariant.laid
