@@ -1,7 +1,7 @@
 // What a call is handed, judged: each check is a row of the table.
 #![tactic(auto, unfolding(rows::specs::Refusals::first_refusal, rows::specs::Refusals::refusal_in, crate::specs::Situations::bad_extents, crate::specs::Situations::bad_coupling, crate::specs::Situations::bad_links, crate::specs::Situations::bad_site, crate::specs::Situations::bad_direction, crate::specs::Situations::bad_plane, crate::specs::Situations::bad_coords, folds::specs::Folds::all_below, crate::specs::Situations::bad_room))]
 
-ghost use Rattle.std.specs.Prelude.{◌≡◌, ◌*◌, ◌<◌, ◌≤◌, [], ◌∷◌, length};
+ghost use Rattle.std.specs.Prelude.{◌≡◌, ◌*◌, ◌<◌, ◌≤◌, [], ◌∷◌, length, not, nat_eq};
 ghost use Rattle.rows.specs.Refusals.{Checked};
 ghost use Rattle.geometry.specs.Radix.{volume, Within};
 ghost use Rattle.rows.specs.declared.Refusal.{Refusal};
@@ -25,6 +25,17 @@ pub fn coupling(c: f64) -> Result<(), Refusal>
         return Err(Refusal::Coupling);
     }
     Ok(())
+}
+
+// A list's length.
+pub fn length(len: usize, wanted: usize) -> Result<(), Refusal>
+    ensures { Checked ((not (nat_eq len wanted), Refusal.Length) ∷ []) (λ _. len ≡ wanted) result }
+{
+    if len == wanted {
+        Ok(())
+    } else {
+        Err(Refusal::Length)
+    }
 }
 
 pub fn lattice(extents: Extents, links: &[f64]) -> Result<Su3Lattice<'_>, Refusal>

@@ -1,7 +1,7 @@
 // What a call is handed, judged: each check is a row of the table, but for `parameters`.
 #![tactic(auto, unfolding(rows::specs::Refusals::first_refusal, rows::specs::Refusals::refusal_in, crate::specs::Situations::bad_count))]
 
-ghost use Rattle.std.specs.Prelude.{◌≡◌, [], ◌∷◌, not, nat_eq};
+ghost use Rattle.std.specs.Prelude.{◌≡◌, [], ◌∷◌};
 ghost use Rattle.rows.specs.Refusals.{Checked};
 ghost use Rattle.rows.specs.declared.Refusal.{Refusal};
 ghost use Rattle.gather.specs.Parts.{ParametersFit};
@@ -9,23 +9,13 @@ ghost use Rattle.flux.specs.Grid.{bad_grid};
 ghost use Rattle.flux.specs.Situations.{parameters_rows};
 
 use crate::grid::Grid;
+pub use field_checks::checks::length;
 use rows::Refusal;
 
 pub fn grid(n: [usize; 3]) -> Result<Grid, Refusal>
     ensures { Checked ((bad_grid n, Refusal.Extents) ∷ []) (λ g. g.n ≡ n) result }
 {
     Grid::new(n).ok_or(Refusal::Extents)
-}
-
-// A list's length.
-pub fn length(len: usize, wanted: usize) -> Result<(), Refusal>
-    ensures { Checked ((not (nat_eq len wanted), Refusal.Length) ∷ []) (λ _. len ≡ wanted) result }
-{
-    if len == wanted {
-        Ok(())
-    } else {
-        Err(Refusal::Length)
-    }
 }
 
 // Offsets, time length and count of densities.

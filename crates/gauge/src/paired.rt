@@ -63,6 +63,7 @@ pub fn zero_sum() -> Paired
     }
 }
 
+// By value, so that a sum of two reads as its definition does.
 pub fn add_matrix(s: Paired, u: Su3) -> Paired
     ensures { matrix_of result ≡ add_of (matrix_of s) u }
 {
@@ -94,21 +95,23 @@ fn second(p: Pair) -> C64
     }
 }
 
-pub fn matrix(s: Paired) -> Su3
-    ensures { result ≡ matrix_of s }
-{
-    let last = s.last;
-    Su3 {
-        m: [
-            first(s.c0),
-            first(s.c1),
-            first(s.c2),
-            second(s.c0),
-            second(s.c1),
-            second(s.c2),
-            first(s.low),
-            second(s.low),
-            last,
-        ],
+impl From<Paired> for Su3 {
+    ghost from_gives = { λ s u. u ≡ matrix_of s };
+
+    fn from(s: Paired) -> Su3 {
+        let last = s.last;
+        Su3 {
+            m: [
+                first(s.c0),
+                first(s.c1),
+                first(s.c2),
+                second(s.c0),
+                second(s.c1),
+                second(s.c2),
+                first(s.low),
+                second(s.low),
+                last,
+            ],
+        }
     }
 }

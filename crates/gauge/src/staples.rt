@@ -8,7 +8,7 @@ ghost use Rattle.gauge.specs.Staple.{add_staples, staple_of};
 ghost use Rattle.gauge.specs.Paired.{matrix_of};
 
 use crate::Su3Lattice;
-use crate::paired::{Paired, add_matrix, matrix, zero_sum};
+use crate::paired::{Paired, add_matrix, zero_sum};
 use geometry::Neighbours;
 use mat::Su3;
 use products::Adjoint;
@@ -51,6 +51,6 @@ impl Su3Lattice<'_> {
         for nu in mu + 1..4 {
             a = self.add_staples(n, mu, nu, &near, a);
         }
-        matrix(a)
+        a.into()
     }
 }
