@@ -1,9 +1,7 @@
 #![tactic(auto)]
 
 ghost use Rattle.std.specs.Prelude.{◌≡◌, ◌≤◌, ◌↔◌, IsSome, IfSome, false};
-ghost use Rattle.std.specs.List.{list_all};
 ghost use Rattle.geometry.specs.Radix.{volume};
-ghost use Rattle.geometry.specs.Shape.{extent_test};
 ghost use Rattle.flux.specs.Grid.{GridShape, bad_grid};
 
 // A grid's extents x, y, z.
@@ -13,12 +11,6 @@ pub struct Grid {
     ghost fits: { GridShape n },
 }
 
-fn fits(n: [usize; 3]) -> bool
-    ensures { result ≡ list_all extent_test n }
-{
-    n.iter().all(|e| geometry::extent_fits(*e))
-}
-
 impl Grid {
     // None where an extent is odd, below 2 or above 16.
     #[tactic(auto, using(crate::proofs::Grids::grid_extents), unfolding(crate::specs::Grid::bad_grid))]
@@ -26,7 +18,7 @@ impl Grid {
         ensures fits { IsSome result ↔ (bad_grid n ≡ false) }
         ensures extents { IfSome result (λ g. g.n ≡ n) }
     {
-        if fits(n) { Some(Self { n }) } else { None }
+        if geometry::fits(n) { Some(Self { n }) } else { None }
     }
 
     // The number of its cells.

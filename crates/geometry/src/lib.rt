@@ -1,6 +1,7 @@
 // Sites, their coordinates and parity. The extents d are those of t, x, y and z.
 #![tactic(auto)]
 
+ghost use Rattle.std.specs.List.{list_all};
 ghost use Rattle.std.specs.Prelude.{◌≡◌, ◌<◌, ◌≤◌, ◌↔◌, true, IsSome, IfSome};
 ghost use Rattle.geometry.specs.Radix.{volume, coords_of, index_of, Within};
 ghost use Rattle.geometry.specs.Shape.{Shape, extent_test, fits_of};
@@ -28,9 +29,9 @@ pub fn extent_fits(e: usize) -> bool
     2 <= e && e <= 16 && e % 2 == 0
 }
 
-// Whether a field can have these extents.
-pub fn fits(d: [usize; 4]) -> bool
-    ensures { result ≡ fits_of d }
+// Whether a field, or a grid in space, can have these extents.
+pub fn fits<const N: usize>(d: [usize; N]) -> bool
+    ensures { result ≡ list_all extent_test d.entry }
 {
     d.iter().all(|e| extent_fits(*e))
 }
@@ -45,6 +46,7 @@ pub struct Extents {
 
 impl Extents {
     // None where an extent is odd, below 2 or above 16.
+    #[tactic(auto, using(crate::proofs::Shape::all_fit))]
     pub fn new(d: [usize; 4]) -> Option<Self>
         ensures fits { IsSome result ↔ (fits_of d ≡ true) }
         ensures extents { IfSome result (λ e. e.d ≡ d) }
