@@ -4,51 +4,51 @@
 
 use std::io;
 
-// Four bytes t, x, y, z to a word: all extents with at most 64 sites, t fastest.
-const ACCEPTED: [u32; 19] = [
-    0x02_02_02_02,
-    0x04_02_02_02,
-    0x06_02_02_02,
-    0x08_02_02_02,
-    0x02_04_02_02,
-    0x04_04_02_02,
-    0x02_06_02_02,
-    0x02_08_02_02,
-    0x02_02_04_02,
-    0x04_02_04_02,
-    0x02_04_04_02,
-    0x02_02_06_02,
-    0x02_02_08_02,
-    0x02_02_02_04,
-    0x04_02_02_04,
-    0x02_04_02_04,
-    0x02_02_04_04,
-    0x02_02_02_06,
-    0x02_02_02_08,
+// All extents t, x, y, z with at most 64 sites, t fastest.
+const ACCEPTED: [[u8; 4]; 19] = [
+    [2, 2, 2, 2],
+    [4, 2, 2, 2],
+    [6, 2, 2, 2],
+    [8, 2, 2, 2],
+    [2, 4, 2, 2],
+    [4, 4, 2, 2],
+    [2, 6, 2, 2],
+    [2, 8, 2, 2],
+    [2, 2, 4, 2],
+    [4, 2, 4, 2],
+    [2, 4, 4, 2],
+    [2, 2, 6, 2],
+    [2, 2, 8, 2],
+    [2, 2, 2, 4],
+    [4, 2, 2, 4],
+    [2, 4, 2, 4],
+    [2, 2, 4, 4],
+    [2, 2, 2, 6],
+    [2, 2, 2, 8],
 ];
 
 // Too many sites; then an extent that is odd, too small or too large, at each place.
-const REFUSED: [u32; 20] = [
-    0x04_04_04_04,
-    0x10_02_02_04,
-    0x0a_02_02_02,
-    0x02_04_04_04,
-    0x10_10_10_10,
-    0x03_02_02_02,
-    0x00_02_02_02,
-    0x12_02_02_02,
-    0x02_02_02_11,
-    0xff_ff_ff_ff,
-    0x03_03_03_03,
-    0x01_02_02_02,
-    0x02_03_02_02,
-    0x02_02_12_02,
-    0x02_02_02_00,
-    0x00_00_00_00,
-    0x82_02_02_02,
-    0x0f_10_10_10,
-    0x10_10_10_12,
-    0x32_32_32_32,
+const REFUSED: [[u8; 4]; 20] = [
+    [4, 4, 4, 4],
+    [16, 2, 2, 4],
+    [10, 2, 2, 2],
+    [2, 4, 4, 4],
+    [16, 16, 16, 16],
+    [3, 2, 2, 2],
+    [0, 2, 2, 2],
+    [18, 2, 2, 2],
+    [2, 2, 2, 17],
+    [255, 255, 255, 255],
+    [3, 3, 3, 3],
+    [1, 2, 2, 2],
+    [2, 3, 2, 2],
+    [2, 2, 18, 2],
+    [2, 2, 2, 0],
+    [0, 0, 0, 0],
+    [130, 2, 2, 2],
+    [15, 16, 16, 16],
+    [16, 16, 16, 18],
+    [50, 50, 50, 50],
 ];
 
 fn case(rt: &impl Print, input: &[u8]) -> io::Result<()> {
@@ -61,10 +61,9 @@ fn case(rt: &impl Print, input: &[u8]) -> io::Result<()> {
     rt.write_all(text.as_slice())
 }
 
-// The bytes of a word, the highest first.
-fn words(rt: &impl Print, words: &[u32]) -> io::Result<()> {
-    for word in words {
-        case(rt, &word.to_be_bytes())?;
+fn cases(rt: &impl Print, inputs: &[[u8; 4]]) -> io::Result<()> {
+    for input in inputs {
+        case(rt, input)?;
     }
     Ok(())
 }
@@ -84,7 +83,7 @@ fn miscounted(rt: &impl Print) -> io::Result<()> {
 }
 
 fn main(rt: HostRuntime) -> io::Result<()> {
-    words(&rt, &ACCEPTED)?;
-    words(&rt, &REFUSED)?;
+    cases(&rt, &ACCEPTED)?;
+    cases(&rt, &REFUSED)?;
     miscounted(&rt)
 }

@@ -7,7 +7,7 @@ mod overrelaxation;
 mod staircases;
 mod walks;
 
-use anyhow::Result;
+use anyhow::{Error, Result};
 use mat::Su3;
 use rng::Rng;
 use rows::Refusal;
@@ -71,16 +71,15 @@ impl Tally {
         self.count(got == wanted)
     }
 
-    // The row that refuses a call, or 0.
+    // Why a call is refused, or not: printed as the row's number, or 0.
     fn row<T: Copy, D: Display + Drop>(
         &mut self,
         call: D,
         answer: Result<T, Refusal>,
-        wanted: u32,
+        wanted: Option<Refusal>,
     ) -> Result<()> {
-        let row = rows::row(answer);
-        print!(self.rt; "row that refuses {call} {row}")?;
-        self.count(row == wanted)
+        print!(self.rt; "row that refuses {call} {}", rows::row(answer))?;
+        self.count(answer.err() == wanted)
     }
 
     // A number by its bits; every NaN is one.
@@ -118,11 +117,11 @@ fn xoshiro256(t: &mut Tally, wanted: &[u64; 10]) -> Result<()> {
     Ok(())
 }
 
-// The number of sites, or 0 where the extents are refused.
 fn sites(t: &mut Tally) -> Result<()> {
-    let n = lattice::n_sites([16, 2, 2, 2]).unwrap_or(0);
+    let n = lattice::n_sites([16, 2, 2, 2]).map_err(Error::msg)?;
     t.whole("sites of 16 2 2 2", n as u64, 128)?;
-    t.row("18 2 2 2", lattice::n_sites([18, 2, 2, 2]), 1)
+    let r = lattice::n_sites([18, 2, 2, 2]);
+    t.row("18 2 2 2", r, Some(Refusal::Extents))
 }
 
 fn main(rt: HostRuntime) -> Result<()> {

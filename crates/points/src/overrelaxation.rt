@@ -2,6 +2,7 @@ use crate::Tally;
 use anyhow::{Error, Result};
 use lattice::Plan;
 use mat::Su3;
+use rows::Refusal;
 use sample::hash::Bits;
 use sweep::Job;
 
@@ -12,7 +13,7 @@ const UPDATED: [f64; 18] = [
 ];
 
 // The identity's update with itself scaled as the staple: the scale is every norm.
-fn norm(t: &mut Tally, scale: f64, wanted: u32) -> Result<()> {
+fn norm(t: &mut Tally, scale: f64, wanted: Option<Refusal>) -> Result<()> {
     let r = sweep::update_link(Su3::IDENTITY, Su3::IDENTITY.scale(scale));
     let norm = Bits(scale);
     t.row(format_args!("the norm {norm}"), r, wanted)?;
@@ -31,12 +32,14 @@ fn refusals(t: &mut Tally, extents: [usize; 4], zeros: &[f64]) -> Result<()> {
         seed: 0,
         pass: u64::MAX,
     };
-    t.row("parity 2", sweep::open_overrelax(&mut plan, 0, 2), 6)?;
-    t.row("pass 2^64 - 1", sweep::open_overrelax(&mut plan, 0, 0), 7)?;
+    let r = sweep::open_overrelax(&mut plan, 0, 2);
+    t.row("parity 2", r, Some(Refusal::Parity))?;
+    let r = sweep::open_overrelax(&mut plan, 0, 0);
+    t.row("pass 2^64 - 1", r, Some(Refusal::Pass))?;
     let r = sweep::update_link(Su3::ZERO, Su3::IDENTITY);
-    t.row("a link of zeros", r, 9)?;
+    t.row("a link of zeros", r, Some(Refusal::Stuck))?;
     let r = sweep::overrelax_link(plan, 0, 0, zeros);
-    t.row("a field's link of zeros", r, 9)
+    t.row("a field's link of zeros", r, Some(Refusal::Stuck))
 }
 
 // Row 8's: of 16 sites 8 have the job's parity.
@@ -50,8 +53,9 @@ fn job_refusals(t: &mut Tally, extents: [usize; 4], links: &mut [f64]) -> Result
         pass: 0,
     };
     let r = sweep::frame_overrelax(&mut job, 1, links);
-    t.row("a frame after 9 of 16 sites", r, 8)?;
-    t.row("to say if 9 of 16 sites are all", sweep::finished(job), 8)
+    t.row("a frame after 9 of 16 sites", r, Some(Refusal::Job))?;
+    let r = sweep::finished(job);
+    t.row("to say if 9 of 16 sites are all", r, Some(Refusal::Job))
 }
 
 // How many sites are visited, and whether these are all.
@@ -70,7 +74,7 @@ fn half_sweep(t: &mut Tally) -> Result<()> {
     sweep::frame_overrelax(&mut job, 3, &mut links).map_err(Error::msg)?;
     after_frame(t, "frame-3", job, 3, false)?;
     let r = sweep::frame_overrelax(&mut job, 5, &mut [0.0; 1151]);
-    t.row("a frame on 1151 numbers", r, 3)?;
+    t.row("a frame on 1151 numbers", r, Some(Refusal::Length))?;
     sweep::frame_overrelax(&mut job, 0, &mut links).map_err(Error::msg)?;
     after_frame(t, "frame-0", job, 3, false)?;
     sweep::frame_overrelax(&mut job, 9, &mut links).map_err(Error::msg)?;
@@ -79,9 +83,9 @@ fn half_sweep(t: &mut Tally) -> Result<()> {
 }
 
 pub fn points(t: &mut Tally) -> Result<()> {
-    norm(t, 9.999999999999998e-13, 9)?;
-    norm(t, 1e-12, 0)?;
-    norm(t, 1.0000000000000002e-12, 0)?;
+    norm(t, 9.999999999999998e-13, Some(Refusal::Stuck))?;
+    norm(t, 1e-12, None)?;
+    norm(t, 1.0000000000000002e-12, None)?;
     let mut links = [0.0; 1152];
     refusals(t, [2, 2, 2, 2], &links)?;
     job_refusals(t, [2, 2, 2, 2], &mut links)?;

@@ -1,6 +1,7 @@
 use crate::Tally;
-use anyhow::Result;
+use anyhow::{Error, Result};
 use baryon::Step;
+use rows::Refusal;
 
 // The steps as the digits of a number: twice the axis, and 1 more where it goes forward.
 fn digits(steps: &[Step]) -> u64 {
@@ -11,7 +12,7 @@ fn digits(steps: &[Step]) -> u64 {
 
 fn staircase(t: &mut Tally, d: [i32; 3], wanted: u64) -> Result<()> {
     let mut steps = [Step::default(); 96];
-    let count = baryon::staircase(d, &mut steps).unwrap_or(0);
+    let count = baryon::staircase(d, &mut steps).map_err(Error::msg)?;
     let [x, y, z] = d;
     let label = format_args!("staircase to {x} {y} {z}");
     t.whole(label, digits(&steps[..count]), wanted)
@@ -26,10 +27,15 @@ pub fn points(t: &mut Tally) -> Result<()> {
     staircase(t, [2, 3, 1], 537535)?;
     staircase(t, [3, 1, 2], 375373)?;
     staircase(t, [-3, 1, -2], 265262)?;
-    for (d, row) in [([32, -32, 32], 0), ([33, 0, 0], 11), ([0, 0, -33], 11)] {
+    let ends = [
+        ([32, -32, 32], None),
+        ([33, 0, 0], Some(Refusal::Reach)),
+        ([0, 0, -33], Some(Refusal::Reach)),
+    ];
+    for (d, refusal) in ends {
         let [x, y, z] = d;
         let laid = baryon::staircase(d, &mut [Step::default(); 96]);
-        t.row(format_args!("{x} {y} {z}"), laid, row)?;
+        t.row(format_args!("{x} {y} {z}"), laid, refusal)?;
     }
     Ok(())
 }

@@ -1,7 +1,7 @@
 // A path of five steps, forward and back, in a field whose numbers are whole: handed over as an array
 // of structs, and as bytes.
 use crate::Tally;
-use anyhow::Result;
+use anyhow::{Error, Result};
 use baryon::Step;
 use mat::Su3;
 use rows::Refusal;
@@ -24,8 +24,8 @@ fn fill(links: &mut [f64; 2304]) {
 }
 
 fn compare(t: &mut Tally, got: Result<(Su3, usize), Refusal>) -> Result<()> {
-    t.row("the path", got, 0)?;
-    let (u, site) = got.unwrap_or((Su3::ZERO, 0));
+    t.row("the path", got, None)?;
+    let (u, site) = got.map_err(Error::msg)?;
     t.matrix("path", u, &PRODUCT)?;
     t.whole("path ends at", site as u64, 25)
 }

@@ -1,5 +1,5 @@
 // Rows 3, 5 and 12 of lists that are lent beside a cold field of 16 sites, and row 10.
-use crate::{EXTENTS, line};
+use crate::{EXTENTS, cold, line};
 use std::io;
 
 fn lengths(rt: &impl Print) -> io::Result<()> {
@@ -38,8 +38,7 @@ fn rooms(rt: &impl Print, links: &[f64]) -> io::Result<()> {
 
 pub fn lines(rt: &impl Print) -> io::Result<()> {
     lengths(rt)?;
-    let mut links = [0.0; 1152];
-    let _ = lattice::cold(EXTENTS, 6.0, 0, &mut links);
+    let links = cold();
     smearing(rt, &links)?;
     densities(rt, &links)?;
     rooms(rt, &links)

@@ -1,5 +1,5 @@
 use crate::walks::NEAR;
-use anyhow::Result;
+use anyhow::{Error, Result};
 use flux::FluxAccumulator;
 use replay_lines::field_lines::{fill, number_line};
 use sample::hash::{Bits, Filled, Fnv};
@@ -55,9 +55,7 @@ fn mean_lines(rt: &impl Print, acc: FluxAccumulator, grid: &[f64]) -> Result<()>
 // Two fields of a kind are added to a new accumulator.
 pub fn lines(rt: &impl Print, kind: Kind) -> Result<()> {
     let mut grid = [7.0; 32];
-    let Ok(mut acc) = FluxAccumulator::new([2, 4, 2], NEAR, 3, 2, &mut grid) else {
-        return Ok(());
-    };
+    let mut acc = FluxAccumulator::new([2, 4, 2], NEAR, 3, 2, &mut grid).map_err(Error::msg)?;
     let mut links = [0.0; 2304];
     let mut densities = [7.0; 64];
     add(

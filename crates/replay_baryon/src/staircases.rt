@@ -1,36 +1,32 @@
-use anyhow::Result;
+use anyhow::{Error, Result};
 use sample::hash::Fnv;
 
 // A staircase has at most 96 steps, 32 along each axis; a step is a byte.
 
 // Adds a staircase to the hash: its count, and then its steps.
-fn with_staircase(h: Fnv, d: [i32; 3]) -> Fnv {
+fn with_staircase(h: Fnv, d: [i32; 3]) -> Result<Fnv> {
     let mut codes = [0u8; 96];
-    let Ok(count) = baryon::staircase(d, &mut codes) else {
-        return h;
-    };
-    h.add(count).add(&codes[..count])
+    let count = baryon::staircase(d, &mut codes).map_err(Error::msg)?;
+    Ok(h.add(count).add(&codes[..count]))
 }
 
 // Every offset from -32 to 32 along each axis, z fastest.
-fn over_all() -> Fnv {
+fn over_all() -> Result<Fnv> {
     let mut h = Fnv::EMPTY;
     for x in -32..33 {
         for y in -32..33 {
             for z in -32..33 {
-                h = with_staircase(h, [x, y, z]);
+                h = with_staircase(h, [x, y, z])?;
             }
         }
     }
-    h
+    Ok(h)
 }
 
 // A staircase step by step.
 fn line(rt: &impl Print, d: [i32; 3]) -> Result<()> {
     let mut codes = [0u8; 96];
-    let Ok(count) = baryon::staircase(d, &mut codes) else {
-        return Ok(());
-    };
+    let count = baryon::staircase(d, &mut codes).map_err(Error::msg)?;
     let [x, y, z] = d;
     print!(rt; "staircase {x} {y} {z} {count}")?;
     for code in &codes[..count] {
@@ -41,7 +37,7 @@ fn line(rt: &impl Print, d: [i32; 3]) -> Result<()> {
 }
 
 pub fn lines(rt: &impl Print) -> Result<()> {
-    println!(rt; "staircases {}", over_all())?;
+    println!(rt; "staircases {}", over_all()?)?;
     let offsets = [
         [0, 0, 0],
         [1, 1, 0],

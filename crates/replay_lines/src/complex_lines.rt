@@ -2,7 +2,7 @@ use anyhow::Result;
 use complex::C64;
 use sample::hash::{Fnv, Hashed};
 
-// Number k of the sixteen, over and over.
+// Number k of the sixteen, over and over. No table: a constant array is copied at each use.
 fn number(k: u64) -> f64 {
     match k % 16 {
         0 => 0.0,

@@ -1,4 +1,4 @@
-use anyhow::Result;
+use anyhow::{Error, Result};
 use complex::C64;
 use lattice::Plan;
 use rows::{Refusal, row_and_value};
@@ -13,9 +13,9 @@ pub fn fill(kind: Kind, links: &mut [f64]) {
     if sites == 0 {
         return;
     }
-    for n in 0..4 * sites {
+    for (n, numbers) in links.chunks_exact_mut(18).enumerate() {
         let u = link(kind, (n / sites) as u64, (n % sites) as u64);
-        links::store(links, 18 * n, u);
+        links::store(numbers, 0, u);
     }
 }
 
@@ -58,13 +58,8 @@ fn loop_line(rt: &impl Print, extents: [usize; 4], links: &[f64]) -> Result<()> 
 // The list has room for every link of the largest field.
 fn check_line(rt: &impl Print, extents: [usize; 4], links: &[f64]) -> Result<()> {
     let mut found = [0u32; 384];
-    let Ok(count) = lattice::link_check(extents, links, &mut found) else {
-        return Ok(());
-    };
-    let mut h = Fnv::EMPTY;
-    for n in found.iter().take(count) {
-        h = h.add(*n);
-    }
+    let count = lattice::link_check(extents, links, &mut found).map_err(Error::msg)?;
+    let h = found.iter().take(count).fold(Fnv::EMPTY, |h, n| h.add(*n));
     println!(rt; "link_check {count} {h}")?;
     Ok(())
 }

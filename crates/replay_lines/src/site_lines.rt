@@ -1,4 +1,4 @@
-use anyhow::Result;
+use anyhow::{Error, Result};
 use rows::row_and_value;
 use sample::hash::Fnv;
 
@@ -6,9 +6,7 @@ fn coords(extents: [usize; 4], sites: usize) -> Fnv {
     let mut h = Fnv::EMPTY;
     for n in 0..sites {
         let (_, at) = row_and_value(lattice::coords(extents, n), [0; 4]);
-        for x in at {
-            h = h.add(x);
-        }
+        h = h.add(at);
     }
     h
 }
@@ -36,9 +34,7 @@ fn neighbours(extents: [usize; 4], sites: usize) -> Fnv {
 pub fn lines(rt: &impl Print, extents: [usize; 4]) -> Result<()> {
     let [t, x, y, z] = extents;
     println!(rt; "extents {t} {x} {y} {z}")?;
-    let Ok(sites) = lattice::n_sites(extents) else {
-        return Ok(());
-    };
+    let sites = lattice::n_sites(extents).map_err(Error::msg)?;
     println!(rt; "sites {sites}")?;
     println!(rt; "coords {}", coords(extents, sites))?;
     println!(rt; "parities {}", parities(extents, sites))?;

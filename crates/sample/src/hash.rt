@@ -49,10 +49,8 @@ impl Fnv {
 
     fn word(self, word: u64) -> Self {
         let mut state = self.state;
-        let mut rest = word;
-        for _ in 0..8u32 {
-            state = words::wrapping_mul(state ^ (rest & 0xff), 0x0000_0100_0000_01b3);
-            rest = rest >> 8;
+        for byte in word.to_le_bytes() {
+            state = words::wrapping_mul(state ^ u64::from(byte), 0x0000_0100_0000_01b3);
         }
         Self { state }
     }
@@ -90,6 +88,7 @@ pub trait Hashed {
     fn add_to(self, h: Fnv) -> Fnv;
 }
 
+// A whole number as one word: one impl over Into<u64> would overlap the others.
 impl Hashed for u64 {
     fn add_to(self, h: Fnv) -> Fnv {
         h.word(self)

@@ -97,11 +97,7 @@ fn matrix(set: Set, rng: &mut Rng) -> Su3 {
 
 // Pair number i of a set.
 pub fn pair_at(set: Set, i: u64) -> Pair {
-    let mu = match set {
-        Set::Raw => 0,
-        Set::Units => 1,
-    };
-    let mut rng = Rng::stream(SEED, i, mu, 0);
+    let mut rng = Rng::stream(SEED, i, set as u64, 0);
     let a = matrix(set, &mut rng);
     let b = matrix(set, &mut rng);
     Pair {
@@ -113,19 +109,13 @@ pub fn pair_at(set: Set, i: u64) -> Pair {
 
 // The first eight numbers of a matrix.
 pub fn block(u: Su3) -> Mat2 {
-    let m = u.m;
-    let m00 = m[0];
-    let m01 = m[1];
-    let m10 = m[2];
-    let m11 = m[3];
+    let [m00, m01, m10, m11, ..] = u.m;
     Mat2 { m00, m01, m10, m11 }
 }
 
 // The first four numbers of a matrix.
 pub fn quaternion(u: Su3) -> Quat {
-    let m = u.m;
-    let left = m[0];
-    let right = m[1];
+    let [left, right, ..] = u.m;
     Quat {
         a0: left.re,
         a1: left.im,
