@@ -1,4 +1,5 @@
-// Lines of a name, a space and a number, appended to a text of bytes that has a fixed room.
+// Lines of a name, a space and a number, appended to a text of bytes that has a fixed room. Not by `write!`: what
+// that writes is promised of a `String` alone, which needs a heap.
 #![tactic(auto, unfolding(crate::specs::Lines::number_text))]
 
 ghost use Rattle.std.specs.Prelude.{◌+◌, ◌≤◌, true, ◌≡◌, ◌++◌, length};

@@ -48,6 +48,8 @@ pub fn lattice(extents: Extents, links: &[f64]) -> Result<Su3Lattice<'_>, Refusa
     }
 }
 
+// No type of a site comes of it: `steps::Position`, `strength::Site` and `paths::Walker` are types of a site with
+// what belongs to it; a number alone has one bound, which is no shorter in a type.
 pub fn site(extents: Extents, n: usize) -> Result<(), Refusal>
     ensures { Checked ((bad_site extents.d n, Refusal.Site) ∷ []) (λ _. n < volume extents.d) result }
 {
@@ -58,6 +60,7 @@ pub fn site(extents: Extents, n: usize) -> Result<(), Refusal>
     }
 }
 
+// No type of a direction comes of it: it is a number that an array is read at, with one bound.
 pub fn direction(mu: usize) -> Result<(), Refusal>
     ensures { Checked ((bad_direction mu, Refusal.Direction) ∷ []) (λ _. mu < 4) result }
 {

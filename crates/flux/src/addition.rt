@@ -32,6 +32,7 @@ impl FluxAccumulator {
     }
 
     // Adds up a field: the grid in the second half of the scratch, and the new sums of the loops and densities.
+    // A host lends one list for both.
     fn added(
         &self,
         lattice: &Su3Lattice,

@@ -18,7 +18,11 @@ impl Grid {
         ensures fits { IsSome result ↔ (bad_grid n ≡ false) }
         ensures extents { IfSome result (λ g. g.n ≡ n) }
     {
-        if geometry::fits(n) { Some(Self { n }) } else { None }
+        if geometry::fits(n) {
+            Some(Self { n })
+        } else {
+            None
+        }
     }
 
     // The number of its cells.

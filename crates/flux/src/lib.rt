@@ -11,7 +11,8 @@ mod means;
 mod start;
 
 // Sums over the fields added so far: n are the grid's extents x, y, z, offsets those of three quarks, x, y, z
-// each, and t_len the loops' time length. Of the sums s the first count are in use.
+// each, and t_len the loops' time length. Of the sums s the first count are in
+// use: a host may hand in any count, which is row 13's.
 #[derive(Clone, Copy)]
 pub struct FluxAccumulator {
     pub n: [usize; 3],

@@ -11,7 +11,8 @@ use links::Lent;
 use mat::Su3;
 use products::row_col;
 
-// The four links of a plaquette a·b·(c·e)†, by where they begin in the list.
+// The four links of a plaquette a·b·(c·e)†, by where they begin in the list: with four matrices as they stand there a
+// plaquette takes a tenth longer.
 #[derive(Clone, Copy)]
 pub struct Square<'a> {
     pub links: &'a [f64],
@@ -24,7 +25,7 @@ pub struct Square<'a> {
 }
 
 // The product of two matrices of a list. A function by itself, so that both products of a plaquette share
-// its code: with the code twice, a plaquette takes a tenth longer.
+// its code.
 #[tactic(auto, using(mat::proofs::Tables::product_is))]
 fn two_links(links: &[f64], a: usize, b: usize) -> Su3
     requires { (a + 18 ≤ length links.now) × (b + 18 ≤ length links.now) }

@@ -7,6 +7,7 @@ use geometry::Extents;
 #[derive(Clone, Copy)]
 pub struct Densities<'a> {
     pub extents: Extents,
+    // Not worked out from the list: that would be a division.
     pub count: usize,
     pub numbers: &'a [f64],
     ghost full: { length numbers.now ≡ count * volume extents.d },

@@ -85,7 +85,7 @@ impl Position {
         };
     }
 
-    // To the site before along an axis.
+    // To the site before along an axis. Not one with `up` by a flag: both bodies would stand in it.
     pub fn down(&mut self, mu: usize)
         requires { mu < 4 }
         ensures field { self.new.strides ≡ self.old.strides }

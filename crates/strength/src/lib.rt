@@ -12,7 +12,8 @@ use gauge::Su3Lattice;
 use geometry::Neighbours;
 use steps::Position;
 
-// A density, and for the electric one its axis of space: 0 is x.
+// A density, and for the electric one its axis of space: 0 is x. An enum and no closure: the claims on densities
+// are over it.
 #[derive(Clone, Copy)]
 pub enum Density {
     Action,

@@ -22,7 +22,8 @@ pub struct LinkSet {
 }
 
 impl LinkSet {
-    // Updates the set's link at a site where it stands, unless it is stuck.
+    // Updates the set's link at a site where it stands, unless it is stuck. The list is handed in beside the
+    // set, which is made of a job alone.
     #[tactic(auto, using(crate::proofs::OneSite::site_stuck, crate::proofs::OneSite::site_moved))]
     fn visit(self, links: &mut [f64], n: usize) -> Result<(), Stuck>
         requires fits { length links.old ≡ 72 * volume self.extents.d }
