@@ -1,6 +1,6 @@
 // Lines of a name, a space and a number, appended to a text of bytes that has a fixed room. Not by `write!`: what
 // that writes is promised of a `String` alone, which needs a heap.
-#![tactic(auto, unfolding(crate::specs::Lines::number_text))]
+#![tactic(auto)]
 
 ghost use Rattle.std.specs.Prelude.{◌+◌, ◌≤◌, true, ◌≡◌, ◌++◌, length};
 ghost use Rattle.std.specs.Float.Ieee.Scale.{finite};
@@ -17,6 +17,7 @@ fn put<const N: usize>(text: &mut ArrayVec<u8, N>, bytes: &[u8])
     text.try_extend_from_slice(bytes).unwrap();
 }
 
+#[tactic(auto, using(crate::proofs::Laws::line_after))]
 fn line<const N: usize>(text: &mut ArrayVec<u8, N>, name: &str, value: &[u8])
     requires { array_vec_len text.old + length name.now + length value.now + 2 ≤ N }
     ensures { text.new.items ≡ text.old.items ++ text_line name.now value.now }
@@ -50,6 +51,7 @@ fn word_line<const N: usize>(text: &mut ArrayVec<u8, N>, name: &str, n: u64)
 }
 
 // A finite f64 by its bits.
+#[tactic(auto, using(crate::proofs::Counted::no_nan), unfolding(crate::specs::Lines::number_text))]
 pub fn number_line<const N: usize>(text: &mut ArrayVec<u8, N>, name: &str, x: f64)
     requires room { array_vec_len text.old + length name.now + 18 ≤ N }
     requires finite { finite x ≡ true }

@@ -19,6 +19,7 @@ use Rattle.std.proofs.lemmas.Nat.{div-mul-add, mod-mul-add}
 use Rattle.std.proofs.lemmas.Slice.{take-put_mid}
 use Rattle.std.proofs.lemmas.List.Folds.{list_all_more, list_all-append}
 use Rattle.folds.specs.Folds.{all_below}
+use Rattle.folds.proofs.Lists.{all_listed}
 use Rattle.geometry.specs.Range.{range}
 use Rattle.rows.specs.Finite.{finite_numbers}
 use Rattle.std.proofs.lemmas.List.Concat.{flat_map_single}
@@ -34,19 +35,11 @@ use Rattle.strength.specs.Densities.{density_of}
 use Rattle.fields.specs.Calls.{smeared, smeared_list, density_list}
 use Rattle.fields.specs.Places.{placed, link_numbers, density_numbers}
 
--- ## a test of each element
-
-all_taken : {X : Type 0} (p : X → Bool) (d : X) (xs : List X) (n : ℕ) → n ≤ length xs → list_all p (take n xs) ≡ all_below (λ i. p (get_or xs i d)) n
-unfolding all_below
-all_taken p d xs zero h = refl
-all_taken p d xs (suc n) h = rw (← add-one n) (list_all_more p xs n d (omega arith)) ∙ ap (λ (b : Bool). b && p (get_or xs n d)) (all_taken p d xs n (omega arith))
-
-pub all_listed : {X : Type 0} (p : X → Bool) (d : X) (xs : List X) → list_all p xs ≡ all_below (λ i. p (get_or xs i d)) (length xs)
-all_listed p d xs = ap (list_all p) (sym (take-length xs)) ∙ all_taken p d xs (length xs) (omega arith)
+-- ## row 10's test of lists laid one after the other
 
 pub finite_list : (l : List Float) → list_all finite l ≡ finite_numbers l
 unfolding finite_numbers
-finite_list l = all_listed finite nan l
+finite_list l = sym (all_listed finite l nan)
 
 finite_append : (xs ys : List Float) → finite_numbers (xs ++ ys) ≡ finite_numbers xs && finite_numbers ys
 finite_append xs ys = sym (finite_list (xs ++ ys)) ∙ list_all-append finite xs ys ∙ rw (finite_list xs, finite_list ys)

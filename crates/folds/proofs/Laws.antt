@@ -20,9 +20,6 @@ module _ {A : Type 0} where
   unfolding fold_to
   fold_next op z f n a b d = rw (d, a, b, add-one)
 
-  pub fold_done : (op : A → A → A) (z : A) (f : ℕ → A) {m n : ℕ} {s : A} → m ≡ n → s ≡ fold_to op z f m → s ≡ fold_to op z f n
-  fold_done op z f h e = rw (e, h)
-
   -- ## a list filled place by place
   pub fill_none : (f : ℕ → A) (l : List A) → l ≡ fill f l 0
   unfolding fill

@@ -2,7 +2,7 @@
 // their sum, and the sums of their products with the densities. What is asked for a caller has checked.
 #![tactic(auto)]
 
-ghost use Rattle.std.specs.Prelude.{◌≡◌, ◌+◌, ◌*◌, ◌<◌, map, length, get_or};
+ghost use Rattle.std.specs.Prelude.{◌≡◌, ◌+◌, ◌*◌, map, get_or};
 ghost use Rattle.geometry.specs.Range.{range};
 ghost use Rattle.gauge.specs.Field.{link_of};
 ghost use Rattle.contraction.specs.Baryon.{loop_of, baryon_of};

@@ -1,4 +1,4 @@
-ghost use Rattle.std.specs.Prelude.{◌≡◌, ◌<◌};
+ghost use Rattle.std.specs.Prelude.{◌≡◌};
 ghost use Rattle.mat.specs.Matrix.{tabulate, trace_of};
 ghost use Rattle.mat.specs.Product.{mul_dag_of, dag_mul_of};
 ghost use Rattle.products.specs.Product.{product_at};
@@ -10,6 +10,7 @@ use products::{Adjoint, Entries, row_col};
 
 impl Su3 {
     // a·b, of any two matrices whose entries can be read.
+    // Always inline: called, it would copy the matrices.
     #[inline(always)]
     pub fn product<A: Entries, B: Entries>(a: A, b: B) -> Self
         ensures { result ≡ tabulate (product_at (A.entries a) (B.entries b)) }

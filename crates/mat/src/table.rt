@@ -1,4 +1,4 @@
-ghost use Rattle.std.specs.Prelude.{◌≡◌, ◌<◌, ℕ};
+ghost use Rattle.std.specs.Prelude.{◌<◌, ℕ};
 ghost use Rattle.mat.specs.Matrix.{at, Table};
 
 use crate::Su3;
@@ -13,7 +13,8 @@ impl<'a> Entries for &'a Su3 {
     }
 }
 
-// The matrix with f(i, j) at row i and column j.
+// The matrix with f(i, j) at row i and column j. The nine calls are written out: loops over the entries
+// take twice as long. Always inline: called, the matrices that f holds would be copied.
 #[inline(always)]
 pub(crate) fn tabulate<F: Fn(usize, usize) -> C64>(f: F) -> Su3
     requires { (i j : ℕ) → i < 3 → j < 3 → F.pre f i j }

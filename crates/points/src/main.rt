@@ -106,7 +106,7 @@ fn splitmix64(t: &mut Tally, seed: u64, wanted: &[u64; 5]) -> Result<()> {
     Ok(())
 }
 
-// Each draw is made of a generator at hand, and of another behind a reference.
+// Each word is drawn twice: by a method on a generator held by value, and by one behind a reference.
 fn xoshiro256(t: &mut Tally, wanted: &[u64; 10]) -> Result<()> {
     let mut own = Rng { s: [1, 2, 3, 4] };
     let lent = &mut Rng { s: [1, 2, 3, 4] };

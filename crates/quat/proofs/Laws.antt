@@ -10,9 +10,3 @@ pair_is zero h = refl
 pair_is (suc zero) h = refl
 pair_is (suc (suc zero)) h = refl
 pair_is (suc (suc (suc g))) h = absurd (omega arith)
-
-pub pair_rows : (g : ℕ) → ((subgroup_of g).i < 3) × ((subgroup_of g).j < 3)
-unfolding subgroup_of
-pair_rows zero = (omega arith, omega arith)
-pair_rows (suc zero) = (omega arith, omega arith)
-pair_rows (suc (suc g)) = (omega arith, omega arith)

@@ -10,7 +10,8 @@ pub fn clear(l: &mut [f64])
     l.fill(0.0);
 }
 
-// Whether every number is finite. There is no early exit.
+// Whether every number is finite. There is no early exit, so that the loop takes several
+// numbers a turn.
 #[tactic(auto, unfolding(folds::specs::Folds::all_below, rows::specs::Finite::finite_numbers))]
 pub fn all_finite(l: &[f64]) -> bool
     ensures { result ≡ finite_numbers l.now }

@@ -8,13 +8,21 @@ use mathlib.Core.Path.{◌≡◌, refl, ap, sym, ◌∙◌}
 use native.Mathlib.Nat.{mod-add-div, mul_comm}
 use native.Mathlib.Numerals.{add-one}
 use native.Mathlib.Omega.{arith}
+use Rattle.std.specs.List.{list_all}
+use Rattle.std.proofs.Math.Bool.{and_assoc}
+use Rattle.std.proofs.lemmas.List.{get_or-drop, get_or-take}
 use lib.Ieee.{Float, nan, inf, fin, le, neg, of_bits}
-use lib.ListN.{length, get_or, drop, set, length-append}
+use lib.ListN.{length, get_or, take, drop, set, length-append, length-take, length-drop}
 use lib.Seq.{set_at, take_at, drop_at, drop-cons, append_snoc}
+use Rattle.folds.specs.Folds.{all_below}
+use Rattle.folds.proofs.Lists.{all_listed}
 use Rattle.complex.specs.Rounded.{fone}
+use Rattle.mat.specs.Matrix.{ent}
+use Rattle.links.specs.Store.{cell_at, matrix_at}
+use Rattle.links.proofs.Laws.{entry_at}
 use Rattle.geometry.specs.Range.{range}
 use Rattle.links.specs.Field.{place_of}
-use Rattle.sound.specs.Sound.{sound_number, Listed}
+use Rattle.sound.specs.Sound.{sound_number, sound_entry, sound_of, Listed}
 
 -- ## one number
 
@@ -25,6 +33,40 @@ sound_by nan = refl
 sound_by (inf true) = refl
 sound_by (inf false) = refl
 sound_by (fin s m e) = refl
+
+-- ## the eighteen numbers of a matrix
+
+pairs : (test : ℕ → Bool) (n : ℕ) → all_below test (2 * n) ≡ all_below (λ k. test (2 * k) && test (2 * k + 1)) n
+unfolding all_below
+pairs test zero = refl
+pairs test (suc n) =
+    let e : 2 * suc n ≡ suc (suc (2 * n)) = omega arith in
+    rw (e, pairs test n, ← add-one (2 * n)) (and_assoc (all_below (λ k. test (2 * k) && test (2 * k + 1)) n) (test (2 * n)) (test (2 * n + 1)))
+
+alike : (f g : ℕ → Bool) (n : ℕ) → ((k : ℕ) → k < n → f k ≡ g k) → all_below f n ≡ all_below g n
+unfolding all_below
+alike f g zero h = refl
+alike f g (suc n) h = rw (alike f g n (λ k q. h k (omega arith)), h n (omega arith))
+
+number_at : (l : List Float) (p i : ℕ) → i < 18 → get_or (take 18 (drop p l)) i nan ≡ get_or l (p + i) nan
+number_at l p i h = get_or-take 18 (drop p l) i nan h ∙ get_or-drop p l i nan
+
+entry_sound : (l : List Float) (p k : ℕ) → k < 9
+    → sound_number (get_or (take 18 (drop p l)) (2 * k) nan) && sound_number (get_or (take 18 (drop p l)) (2 * k + 1) nan) ≡ sound_entry (ent (matrix_at l p) k)
+unfolding sound_entry cell_at
+entry_sound l p k h =
+    let e : p + (2 * k + 1) ≡ p + 2 * k + 1 = omega arith in
+    rw (number_at l p (2 * k) (omega arith), number_at l p (2 * k + 1) (omega arith), e, ← entry_at l p k h)
+
+pub sound_numbers : (l : List Float) (p : ℕ) → p + 18 ≤ length l → list_all sound_number (take 18 (drop p l)) ≡ sound_of (matrix_at l p)
+unfolding sound_of
+sound_numbers l p h =
+    let xs = take 18 (drop p l) in
+    let len : length xs ≡ 18 = simp (length-take, length-drop) (omega arith) in
+    sym (all_listed sound_number xs nan)
+    ∙ ap (all_below (λ k. sound_number (get_or xs k nan))) len
+    ∙ pairs (λ k. sound_number (get_or xs k nan)) 9
+    ∙ alike _ _ 9 (entry_sound l p)
 
 -- ## the numbers that fail a test
 
@@ -45,15 +87,6 @@ module _ (test : ℕ → Bool) where
   failing_same n h =
       let not : test n ≡ false → ⊥ = λ g. true≢false (sym h ∙ g) in
       rw (add-one n) (filter-append fails (range n) (n ∷ []) ∙ ap (λ (l : List ℕ). failing n ++ l) (if_neg (fails n) not _ _) ∙ append-nil (failing n))
-
-  few_next : (n : ℕ) → length (failing n) ≤ n → (b : Bool) → test n ≡ b → length (failing (n + 1)) ≤ n + 1
-  few_next n few true h = rw (failing_same n h) (omega arith)
-  few_next n few false h = rw (failing_next n h, length-append) (omega arith)
-
-  -- at most as many as were tested
-  pub failing_few : (n : ℕ) → length (failing n) ≤ n
-  failing_few zero = unfold range in omega arith
-  failing_few (suc n) = rw (add-one n) at (few_next n (failing_few n) (test n) refl)
 
   -- the front of a list taken by those below n, c of them
   pub record Written (old : List ℕ) (n c : ℕ) (new : List ℕ) : Type 0 where

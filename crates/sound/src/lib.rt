@@ -2,12 +2,12 @@
 #![tactic(auto)]
 
 ghost use Rattle.std.specs.Prelude.{◌≡◌, ◌+◌, ◌*◌, ◌≤◌, length};
+ghost use Rattle.std.specs.List.{list_all};
 ghost use Rattle.geometry.specs.Radix.{volume};
 ghost use Rattle.links.specs.Store.{matrix_at};
 ghost use Rattle.gauge.specs.Field.{link_of};
-ghost use Rattle.sound.specs.Sound.{sound_number, sound_entry, sound_of, unsound_links, Listed};
+ghost use Rattle.sound.specs.Sound.{sound_number, sound_of, unsound_links, Listed};
 
-use complex::C64;
 use gauge::Su3Lattice;
 
 // Whether a number is finite and from -1 to 1. No infinity and no NaN passes the comparisons.
@@ -17,10 +17,10 @@ fn sound_number(x: f64) -> bool
     x >= -1.0 && x <= 1.0
 }
 
-fn sound_entry(z: C64) -> bool
-    ensures { result ≡ sound_entry z }
+fn all_sound(numbers: &[f64]) -> bool
+    ensures { result ≡ list_all sound_number numbers.now }
 {
-    sound_number(z.re) && sound_number(z.im)
+    numbers.iter().all(|x| sound_number(*x))
 }
 
 // Whether the matrix at a place is sound.
@@ -28,12 +28,7 @@ fn sound(links: &[f64], p: usize) -> bool
     requires { p + 18 ≤ length links.now }
     ensures { result ≡ sound_of (matrix_at links.now p) }
 {
-    for k in 0..9 {
-        if !sound_entry(links::cell(links, p + 2 * k)) {
-            return false;
-        }
-    }
-    true
+    all_sound(&links[p..p + 18])
 }
 
 // Writes the numbers of the unsound links to the front of a list, and gives their count.

@@ -5,7 +5,7 @@ use lib.Signed.{lt_z}
 use Rattle.std.specs.Int.{int_signum}
 use Rattle.folds.proofs.Few.{below_three}
 use Rattle.geometry.specs.Range.{range}
-use Rattle.geometry.proofs.Range.{length-listed, listed_next}
+use Rattle.geometry.proofs.Range.{listed_next}
 use Rattle.stairs.specs.declared.Step.{Step}
 use Rattle.stairs.specs.Line.{along_of}
 use Rattle.stairs.specs.Staircase.{differs, stepped_to, best_of, step_along, place_at, step_at, steps_to, staircase_of}

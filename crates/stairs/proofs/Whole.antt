@@ -1,12 +1,12 @@
--- Whole numbers: steps of one in i32, offsets in reach, time lengths.
-use Rattle.std.proofs.Common.{get_or, ℕ, zero, suc, ◌+◌, ◌<◌, ◌≤◌, List, [], ◌∷◌, ◌≡◌, refl, ap, false, true, ℤ, pos, negsuc, nat_abs, ◌+ℤ◌, arith, w32, SFits, to_z, of_z, lt-ltb, le-ltb}
+-- Whole numbers: steps of one in i32, offsets in reach.
+use Rattle.std.proofs.Common.{get_or, ℕ, zero, suc, ◌+◌, ◌<◌, ◌≤◌, List, [], ◌∷◌, ◌≡◌, refl, ap, false, ℤ, pos, negsuc, nat_abs, ◌+ℤ◌, arith, w32, SFits, to_z, of_z}
 use Rattle.std.proofs.lemmas.Bool.{or_parts}
 use Rattle.std.proofs.lemmas.Int.{ints, to_z-of_z}
 use Rattle.std.proofs.Math.ListN.{set}
 use Rattle.std.specs.Int.{int_signum}
 use Rattle.stairs.specs.Line.{along_of}
 use Rattle.stairs.specs.Staircase.{stepped_to, Reached}
-use Rattle.stairs.specs.Offsets.{bad_offset, bad_offsets, bad_quarks, bad_time}
+use Rattle.stairs.specs.Offsets.{bad_offset, bad_offsets, bad_quarks}
 
 -- ## a step of one
 
@@ -46,13 +46,3 @@ unfolding bad_quarks
 each_quark [] q h = unfold bad_offsets in refl
 each_quark (d ∷ o) zero h = (or_parts _ _ h).0
 each_quark (d ∷ o) (suc q) h = each_quark o q (or_parts (bad_offsets d) _ h).1
-
--- ## time lengths
-
-pub bad_time_lem : {t : ℕ} → 64 < t → bad_time t ≡ true
-unfolding bad_time
-bad_time_lem h = rw (lt-ltb _ _ h)
-
-pub good_time : {t : ℕ} → t ≤ 64 → bad_time t ≡ false
-unfolding bad_time
-good_time h = rw (le-ltb _ _ h)

@@ -1,6 +1,6 @@
 #![tactic(auto, unfolding(mat::specs::Matrix::re_tr, mat::specs::Product::mul_of, mat::specs::Product::row_col, crate::specs::Densities::trace_product, crate::specs::Densities::plane_density, crate::specs::Densities::electric_of, crate::specs::Densities::action_density_of, crate::specs::Densities::charge_factor, crate::specs::Densities::charge_density_of, crate::specs::Densities::density_of, crate::specs::Densities::InSpace))]
 
-ghost use Rattle.std.specs.Prelude.{◌≡◌, ◌<◌};
+ghost use Rattle.std.specs.Prelude.{◌≡◌};
 ghost use Rattle.gauge.specs.Field.{link_of};
 ghost use Rattle.strength.specs.Densities.{trace_product, plane_density, action_density_of, charge_density_of, density_of, InSpace};
 
