@@ -30,7 +30,8 @@ fn all_finite(numbers: &[f64]) -> bool
     numbers.iter().all(|x| rows::is_finite(*x))
 }
 
-// Whether all numbers are finite.
+// Whether all numbers are finite. There is no list of them: those of a place are worked out from its number, here and
+// in `store`.
 pub fn is_finite<const N: usize, W: Filling<N>>(what: &W) -> bool
     requires { N < 2 ^ 60 }
     ensures { result ≡ finite_numbers (placed (W.numbers what.now) (W.places what.now)) }

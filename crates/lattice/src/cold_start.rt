@@ -10,7 +10,7 @@ use geometry::Extents;
 use mat::Su3;
 use rows::Refusal;
 
-// Sets every link of a list to the identity.
+// Sets every link of a list to the identity, by its number, as `links` goes by places.
 fn set_identities(links: &mut [f64], extents: Extents)
     requires { length links.old ≡ 72 * volume extents.d }
     ensures { links.new ≡ cold_links extents.d }

@@ -60,7 +60,8 @@ impl Fnv {
     }
 }
 
-// What a call leaves that fills a list: the row that refuses it, or 0, and the list as it is then.
+// What a call leaves that fills a list: the row that refuses it, or 0, and the list as it is then. A row and no
+// `Option`: it is printed as its number.
 #[derive(Clone, Copy)]
 pub struct Filled {
     row: u32,

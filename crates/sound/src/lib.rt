@@ -31,7 +31,8 @@ fn sound(links: &[f64], p: usize) -> bool
     all_sound(&links[p..p + 18])
 }
 
-// Writes the numbers of the unsound links to the front of a list, and gives their count.
+// Writes the numbers of the unsound links to the front of a list, and gives their count. Links and unsound ones are
+// counted, since there is no list of either to go along.
 pub fn list_unsound(lattice: &Su3Lattice, found: &mut [u32]) -> usize
     requires { 4 * volume lattice.now.extents.d ≤ length found.old }
     ensures listed { Listed (unsound_links lattice.now.extents.d (link_of lattice.now.extents.d lattice.now.links.now)) found.old result found.new }

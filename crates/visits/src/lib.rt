@@ -41,7 +41,7 @@ impl LinkSet {
     }
 
     // Visits sites of the parity in ascending order, the first of them the from-th, and gives how many
-    // links were stuck.
+    // links were stuck. There is no list of the sites: each is worked out from its number.
     #[tactic(auto, using(crate::proofs::Joined::few_stuck, geometry::proofs::Order::nth_below), unfolding(geometry::specs::Order::half_of))]
     pub fn advance(self, links: &mut [f64], from: usize, count: usize) -> usize
         requires fits { length links.old ≡ 72 * volume self.extents.d }
