@@ -32,7 +32,7 @@ fn all_finite(numbers: &[f64]) -> bool
 
 // Whether all numbers are finite. There is no list of them: those of a place are worked out from its number, here and
 // in `store`.
-pub fn is_finite<const N: usize, W: Filling<N>>(what: &W) -> bool
+fn is_finite<const N: usize, W: Filling<N>>(what: &W) -> bool
     requires { N < 2 ^ 60 }
     ensures { result ≡ finite_numbers (placed (W.numbers what.now) (W.places what.now)) }
 {
@@ -45,7 +45,7 @@ pub fn is_finite<const N: usize, W: Filling<N>>(what: &W) -> bool
 }
 
 // Row 10 for what is worked out.
-pub fn check<const N: usize, W: Filling<N>>(what: &W) -> Result<(), Refusal>
+pub(crate) fn check<const N: usize, W: Filling<N>>(what: &W) -> Result<(), Refusal>
     requires { N < 2 ^ 60 }
     ensures { result ≡ answered (first_refusal ((bad_numbers (placed (W.numbers what.now) (W.places what.now)), Refusal.NotFinite) ∷ [])) tt }
 {
@@ -56,7 +56,7 @@ pub fn check<const N: usize, W: Filling<N>>(what: &W) -> Result<(), Refusal>
     }
 }
 
-pub fn store<const N: usize, W: Filling<N>>(what: &W, list: &mut [f64])
+pub(crate) fn store<const N: usize, W: Filling<N>>(what: &W, list: &mut [f64])
     requires { length list.old ≡ W.places what.now * N }
     ensures { list.new ≡ placed (W.numbers what.now) (W.places what.now) }
 {
