@@ -1,13 +1,15 @@
 -- What the code works out on the way fits a word.
 use Prim.Native.Nat.{ℕ, ◌+◌, ◌*◌, ◌/◌, ◌^◌, ◌<◌, ◌≤◌}
 use mathlib.Core.List.{List}
-use native.Mathlib.Nat.{mul_comm, mul-one, mul-le-mul, div-lt_iff_lt-mul, lt_of_le_of_lt}
+use mathlib.Core.Path.{◌≡◌}
+use native.Mathlib.Nat.{mul_comm, mul-one, mul-pos, mul-le-mul, div-lt_iff_lt-mul, lt_of_le_of_lt}
 use native.Mathlib.Omega.{arith}
-use lib.ListN.{get_or}
+use lib.ListN.{length, get_or}
 use mir.Syntax.{w64}
 use mir.Val.{Fits}
+use Rattle.folds.proofs.Few.{three_are}
 use Rattle.geometry.specs.Radix.{volume, coords_of, Within}
-use Rattle.geometry.specs.Shape.{Shape}
+use Rattle.geometry.specs.Shape.{Shape, GridShape}
 use Rattle.geometry.proofs.Radix.{coords_within}
 use Rattle.geometry.proofs.Shape.{volume_pos, four_are}
 
@@ -42,6 +44,24 @@ both_small s w = (shape_small _ s, within_small _ _ s w)
 
 pub coords_small : (d : List ℕ) (n : ℕ) → Shape d → Small (coords_of d n)
 coords_small d n s = within_small d (coords_of d n) s (coords_within d n (volume_pos d s))
+
+-- ## the cells of a grid
+
+pub record Cells (n : List ℕ) : Type 0 where
+  pub some : 0 < get_or n 0 0 * (get_or n 1 0 * get_or n 2 0)
+  pub yz : get_or n 1 0 * get_or n 2 0 ≤ 256
+  pub xyz : get_or n 0 0 * (get_or n 1 0 * get_or n 2 0) ≤ 4096
+
+pub cells_small : (n : List ℕ) → GridShape n → Cells n
+cells_small n g =
+    let high : (a : ℕ) → a < 3 → get_or n a 0 ≤ 16 = λ a h. (g.each a h).high in
+    let low : (a : ℕ) → a < 3 → 0 < get_or n a 0 = λ a h. omega (arith, (g.each a h).low) in
+    let yz = mul-le-mul (high 1 (omega arith)) (high 2 (omega arith)) in
+    record { some = mul-pos (low 0 (omega arith)) (mul-pos (low 1 (omega arith)) (low 2 (omega arith))); yz = yz; xyz = mul-le-mul (high 0 (omega arith)) yz }
+
+pub cells_are : (n : List ℕ) → length n ≡ 3 → get_or n 0 0 * (get_or n 1 0 * get_or n 2 0) ≡ volume n
+unfolding volume
+cells_are n h = rw (three_are 0 n h, mul-one (get_or n 2 0))
 
 -- ## products and sums of them
 

@@ -1,19 +1,20 @@
 -- The test of extents says what Shape says, and what follows for a field's extents.
-use Prim.Native.Nat.{ℕ, suc, ◌%◌, ◌<◌, ◌≤◌}
+use Prim.Native.Nat.{ℕ, suc, ◌*◌, ◌%◌, ◌<◌, ◌≤◌}
 use mathlib.Core.Bool.{Bool, true, false, ◌&&◌, and-eq-true_iff}
 use mathlib.Core.List.{List, [], ◌∷◌}
-use mathlib.Core.Path.{◌≡◌, refl}
+use mathlib.Core.Path.{◌≡◌, refl, ap}
 use native.Mathlib.Nat.{mul-le-mul, mul-pos, le_refl}
 use native.Mathlib.Omega.{arith}
 use lib.Dec.{leb, eqb}
-use lib.ListN.{length, get_or}
+use lib.ListN.{length, get_or, drop}
 use borrow.Author.Tests.{leb-true, eqb-true, le-leb, eq-eqb}
 use Rattle.std.specs.List.{list_all}
+use Rattle.std.proofs.lemmas.List.Folds.{list_all_at}
 use Rattle.folds.specs.Folds.{all_below}
 use Rattle.folds.proofs.Laws.{all_each, each_all}
-use Rattle.folds.proofs.Few.{four_are as few-are}
+use Rattle.folds.proofs.Few.{below_three, four_are as few-are}
 use Rattle.geometry.specs.Radix.{volume}
-use Rattle.geometry.specs.Shape.{Extent, Shape, extent_test, fits_of}
+use Rattle.geometry.specs.Shape.{Extent, Shape, GridShape, extent_test, fits_of}
 
 -- ## one extent
 
@@ -55,6 +56,15 @@ all_fit (a ∷ b ∷ c ∷ []) four = absurd (omega arith)
 all_fit (a ∷ b ∷ c ∷ e ∷ []) four = regrouped (extent_test a) (extent_test b) (extent_test c) (extent_test e)
 all_fit (a ∷ b ∷ c ∷ e ∷ f ∷ l) four = absurd (omega arith)
 
+-- ## a grid
+
+pub grid_extents : (n : List ℕ) → length n ≡ 3 → list_all extent_test n ≡ true → GridShape n
+grid_extents n three h = record { three = three; each = λ a g. extent_true (get_or n a 0) (passes (extent_test (get_or n a 0)) a refl g) }
+  where
+    passes : (b : Bool) (a : ℕ) → extent_test (get_or n a 0) ≡ b → a < 3 → extent_test (get_or n a 0) ≡ true
+    passes true a e g = e
+    passes false a e g = let fails = list_all_at extent_test n a 0 (omega (arith, three)) e in cc
+
 -- ## what follows
 
 -- a list of four is its four elements
@@ -78,3 +88,15 @@ volume_high d s = rw (four_are d s.four) (mul-le-mul (high 0 (omega arith)) (mul
   where
     high : (mu : ℕ) → mu < 4 → get_or d mu 0 ≤ 16
     high mu h = (s.each mu h).high
+
+pub space_are : (d : List ℕ) → Shape d → drop 1 d ≡ get_or d 1 0 ∷ get_or d 2 0 ∷ get_or d 3 0 ∷ []
+space_are d s = ap (λ (l : List ℕ). drop 1 l) (four_are d s.four)
+
+pub space_fits : (d : List ℕ) → Shape d → GridShape (drop 1 d)
+space_fits d s =
+    let axes = get_or d 1 0 ∷ get_or d 2 0 ∷ get_or d 3 0 ∷ [] in
+    rw (space_are d s) (record { three = refl; each = below_three (λ a. Extent (get_or axes a 0)) (s.each 1 (omega arith)) (s.each 2 (omega arith)) (s.each 3 (omega arith)) })
+
+pub volume_is : (d : List ℕ) → Shape d → get_or d 0 0 * volume (drop 1 d) ≡ volume d
+unfolding volume
+volume_is d s = rw (four_are d s.four)

@@ -2,11 +2,15 @@
 #![tactic(auto)]
 
 ghost use Rattle.std.specs.List.{list_all};
-ghost use Rattle.std.specs.Prelude.{◌≡◌, ◌<◌, ◌≤◌, ◌↔◌, true, IsSome, IfSome};
+ghost use Rattle.std.specs.Prelude.{◌≡◌, ◌+◌, ◌%◌, ◌<◌, ◌≤◌, ◌↔◌, true, IsSome, IfSome, drop};
 ghost use Rattle.geometry.specs.Radix.{volume, coords_of, index_of, Within};
 ghost use Rattle.geometry.specs.Shape.{Shape, extent_test, fits_of};
 ghost use Rattle.geometry.specs.Steps.{parity_of, spot_of};
 ghost use Rattle.geometry.specs.Order.{half_of, nth_of};
+
+mod grid;
+
+pub use grid::Grid;
 
 // The sites next to a site, up and down each axis.
 #[derive(Clone, Copy)]
@@ -20,6 +24,14 @@ pub struct Neighbours {
 pub struct Spot {
     pub site: usize,
     pub at: [usize; 4],
+}
+
+// A number below 2n, modulo n.
+pub fn wrap(a: usize, n: usize) -> usize
+    requires { a < n + n }
+    ensures { result ≡ a % n }
+{
+    if a < n { a } else { a - n }
 }
 
 // Whether an extent is even and from 2 to 16.
@@ -54,12 +66,23 @@ impl Extents {
         if fits(d) { Some(Self { d }) } else { None }
     }
 
+    // Those along x, y and z.
+    #[tactic(auto, using(crate::proofs::Shape::space_fits, crate::proofs::Shape::space_are))]
+    pub fn space(self) -> Grid
+        ensures { result.n ≡ drop 1 self.d }
+    {
+        let d = self.d;
+        Grid {
+            n: [d[1], d[2], d[3]],
+        }
+    }
+
     // The number of sites.
+    #[tactic(auto, using(crate::proofs::Shape::volume_is, crate::proofs::Bounds::shape_small))]
     pub fn sites(self) -> usize
         ensures { result ≡ volume self.d }
     {
-        let d = self.d;
-        d[0] * (d[1] * (d[2] * d[3]))
+        self.d[0] * self.space().cells()
     }
 
     // The coordinates t, x, y, z of a site. What is left of the number for z is below its extent.

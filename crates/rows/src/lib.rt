@@ -3,29 +3,30 @@
 
 ghost use Rattle.std.specs.Prelude.{◌≡◌};
 ghost use Rattle.std.specs.Float.Ieee.Scale.{finite};
+ghost use Rattle.rows.specs.Finite.{finite_numbers};
 ghost use Rattle.rows.specs.Refusals.{refusal_in, value_or};
 ghost use Rattle.rows.specs.Numbers.{row_of, number_in};
 
 use std::fmt;
 
-// Why a call is refused: one for each row of the table, in the table's order.
+// Why a call is refused: one for each row of the table, with its number.
 #[derive(Clone, Copy, Debug, PartialEq, Eq)]
 pub enum Refusal {
-    Extents,
-    Coupling,
-    Length,
-    Site,
-    Direction,
-    Parity,
-    Pass,
-    Job,
-    Stuck,
-    NotFinite,
-    Reach,
-    Room,
-    Densities,
-    NoMean,
-    Input,
+    Extents = 1,
+    Coupling = 2,
+    Length = 3,
+    Site = 4,
+    Direction = 5,
+    Parity = 6,
+    Pass = 7,
+    Job = 8,
+    Stuck = 9,
+    NotFinite = 10,
+    Reach = 11,
+    Room = 12,
+    Densities = 13,
+    NoMean = 14,
+    Input = 15,
 }
 
 // The row's number.
@@ -33,23 +34,7 @@ impl From<Refusal> for u32 {
     ghost from_gives = { λ refusal row. row ≡ row_of refusal };
 
     fn from(refusal: Refusal) -> u32 {
-        match refusal {
-            Refusal::Extents => 1,
-            Refusal::Coupling => 2,
-            Refusal::Length => 3,
-            Refusal::Site => 4,
-            Refusal::Direction => 5,
-            Refusal::Parity => 6,
-            Refusal::Pass => 7,
-            Refusal::Job => 8,
-            Refusal::Stuck => 9,
-            Refusal::NotFinite => 10,
-            Refusal::Reach => 11,
-            Refusal::Room => 12,
-            Refusal::Densities => 13,
-            Refusal::NoMean => 14,
-            Refusal::Input => 15,
-        }
+        refusal as u32
     }
 }
 
@@ -102,4 +87,16 @@ pub fn is_finite(x: f64) -> bool
     ensures { result ≡ finite x }
 {
     x.is_finite()
+}
+
+// The same of every number of a list. There is no early exit, so that the loop takes several numbers a turn.
+#[tactic(auto, unfolding(folds::specs::Folds::all_below, crate::specs::Finite::finite_numbers))]
+pub fn all_finite(l: &[f64]) -> bool
+    ensures { result ≡ finite_numbers l.now }
+{
+    let mut all = true;
+    for x in l {
+        all &= is_finite(*x);
+    }
+    all
 }
