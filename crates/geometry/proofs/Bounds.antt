@@ -1,15 +1,14 @@
 -- What the code works out on the way fits a word.
-use Prim.Native.Nat.{ℕ, ◌+◌, ◌*◌, ◌/◌, ◌^◌, ◌<◌, ◌≤◌}
-use mathlib.Core.List.{List}
+use Prim.Native.Nat.{ℕ, ◌+◌, ◌*◌, ◌/◌, ◌%◌, ◌<◌, ◌≤◌}
+use mathlib.Core.List.{List, [], ◌∷◌}
 use mathlib.Core.Path.{◌≡◌}
-use native.Mathlib.Nat.{mul_comm, mul-one, mul-pos, mul-le-mul, div-lt_iff_lt-mul, lt_of_le_of_lt}
+use native.Mathlib.Nat.{mul_comm, mul-one, mul-zero, add-zero, mul-pos, mul-le-mul, div-lt_iff_lt-mul, mod-eq_of_lt}
 use native.Mathlib.Omega.{arith}
 use lib.ListN.{length, get_or}
-use mir.Syntax.{w64}
-use mir.Val.{Fits}
 use Rattle.folds.proofs.Few.{three_are}
-use Rattle.geometry.specs.Radix.{volume, coords_of, Within}
+use Rattle.geometry.specs.Radix.{volume, coords_of, index_of, Within}
 use Rattle.geometry.specs.Shape.{Shape, GridShape}
+use Rattle.geometry.specs.Steps.{total, parity_of}
 use Rattle.geometry.proofs.Radix.{coords_within}
 use Rattle.geometry.proofs.Shape.{volume_pos, four_are}
 
@@ -39,9 +38,6 @@ shape_small d s = small d (λ mu h. (s.each mu h).high)
 pub within_small : (d c : List ℕ) → Shape d → Within d c → Small c
 within_small d c s w = small c (λ mu h. omega (arith, w.each mu (omega (arith, s.four)), (s.each mu h).high))
 
-pub both_small : {d c : List ℕ} → Shape d → Within d c → Small d × Small c
-both_small s w = (shape_small _ s, within_small _ _ s w)
-
 pub coords_small : (d : List ℕ) (n : ℕ) → Shape d → Small (coords_of d n)
 coords_small d n s = within_small d (coords_of d n) s (coords_within d n (volume_pos d s))
 
@@ -63,16 +59,33 @@ pub cells_are : (n : List ℕ) → length n ≡ 3 → get_or n 0 0 * (get_or n 1
 unfolding volume
 cells_are n h = rw (three_are 0 n h, mul-one (get_or n 2 0))
 
--- ## products and sums of them
+-- ## sites by coordinates
 
-pub product : {a b : ℕ} (j k : ℕ) → a ≤ j → b ≤ k → a * b ≤ j * k
+product : {a b : ℕ} (j k : ℕ) → a ≤ j → b ≤ k → a * b ≤ j * k
 product j k h g = mul-le-mul h g
 
-pub digit : {c e q : ℕ} (k : ℕ) → c ≤ 16 → e ≤ 16 → q ≤ k → c + e * q ≤ 16 + 16 * k
-digit k h g l = omega (arith, product 16 k g l)
+-- what `index` works out on the way, for extents d and coordinates c
+pub record Index (d c : List ℕ) : Type 0 where
+  pub z : get_or d 2 0 * get_or c 3 0 ≤ 256
+  pub yz : get_or d 1 0 * (get_or c 2 0 + get_or d 2 0 * get_or c 3 0) ≤ 4352
+  pub xyz : get_or d 0 0 * (get_or c 1 0 + get_or d 1 0 * (get_or c 2 0 + get_or d 2 0 * get_or c 3 0)) ≤ 69888
+  pub small : Small c
 
-pub fits : {n : ℕ} (k : ℕ) → n ≤ k → k < 2 ^ 64 → Fits w64 n
-fits k h g = record { fits = lt_of_le_of_lt h g }
+pub index_small : (d c : List ℕ) → Shape d → Within d c → Index d c
+index_small d c s w =
+    let e = shape_small d s in
+    let at = within_small d c s w in
+    let z = product 16 16 e.y at.z in
+    let yz : get_or d 1 0 * (get_or c 2 0 + get_or d 2 0 * get_or c 3 0) ≤ 4352 = product 16 272 e.x (omega (arith, z, at.y)) in
+    record { z = z; yz = yz; xyz = product 16 4368 e.t (omega (arith, yz, at.x)); small = at }
+
+pub index_is : (d c : List ℕ) → Shape d → Within d c → get_or c 0 0 + get_or d 0 0 * (get_or c 1 0 + get_or d 1 0 * (get_or c 2 0 + get_or d 2 0 * get_or c 3 0)) ≡ index_of d c
+unfolding index_of
+index_is d c s w =
+    let l : length c ≡ 4 = rw w.len s.four in
+    rw (four_are d s.four, four_are c l) (simp (mul-zero, add-zero))
+
+-- ## coordinates by number
 
 pub quotient_below : {e v n : ℕ} → 0 < e → n < e * v → n / e < v
 quotient_below p i = (div-lt_iff_lt-mul p).1 (rw mul_comm at i)
@@ -86,3 +99,14 @@ last_below d n s h =
     let b = quotient_below (omega (arith, l.x)) a in
     let c = quotient_below (omega (arith, l.y)) b in
     rw mul-one at c
+
+pub coords_are : (d : List ℕ) (n : ℕ) → Shape d → n < volume d
+    → n % get_or d 0 0 ∷ n / get_or d 0 0 % get_or d 1 0 ∷ n / get_or d 0 0 / get_or d 1 0 % get_or d 2 0 ∷ n / get_or d 0 0 / get_or d 1 0 / get_or d 2 0 ∷ [] ≡ coords_of d n
+unfolding coords_of
+coords_are d n s h = rw (four_are d s.four, mod-eq_of_lt (last_below d n s h))
+
+pub parity_is : (d c : List ℕ) (n : ℕ) → Shape d → c ≡ coords_of d n → (get_or c 0 0 + get_or c 1 0 + get_or c 2 0 + get_or c 3 0) % 2 ≡ parity_of d n
+unfolding parity_of total
+parity_is d c n s e =
+    let l : length c ≡ 4 = rw (e, (coords_within d n (volume_pos d s)).len) s.four in
+    rw (← e, four_are c l) (omega arith)

@@ -35,6 +35,7 @@ pub fn wrap(a: usize, n: usize) -> usize
 }
 
 // Whether an extent is even and from 2 to 16.
+#[tactic(auto, unfolding(crate::specs::Shape::extent_test))]
 pub fn extent_fits(e: usize) -> bool
     ensures { result ≡ extent_test e }
 {
@@ -58,7 +59,7 @@ pub struct Extents {
 
 impl Extents {
     // None where an extent is odd, below 2 or above 16.
-    #[tactic(auto, using(crate::proofs::Shape::all_fit))]
+    #[tactic(auto, using(crate::proofs::Shape::all_fit, crate::proofs::Shape::fits_shape, crate::proofs::Shape::volume_pos, crate::proofs::Shape::volume_high))]
     pub fn new(d: [usize; 4]) -> Option<Self>
         ensures fits { IsSome result ↔ (fits_of d ≡ true) }
         ensures extents { IfSome result (λ e. e.d ≡ d) }
@@ -86,6 +87,7 @@ impl Extents {
     }
 
     // The coordinates t, x, y, z of a site. What is left of the number for z is below its extent.
+    #[tactic(auto, using(crate::proofs::Bounds::shape_low, crate::proofs::Bounds::coords_are))]
     pub fn coords(self, site: usize) -> [usize; 4]
         requires { site < volume self.d }
         ensures { result ≡ coords_of self.d site }
@@ -109,6 +111,7 @@ impl Extents {
     }
 
     // The site at coordinates.
+    #[tactic(auto, using(crate::proofs::Bounds::index_small, crate::proofs::Bounds::index_is))]
     pub fn index(self, c: [usize; 4]) -> usize
         requires { Within self.d c }
         ensures { result ≡ index_of self.d c }
@@ -118,6 +121,7 @@ impl Extents {
     }
 
     // 0 or 1: whether the coordinates' sum is even or odd.
+    #[tactic(auto, using(crate::proofs::Bounds::coords_small, crate::proofs::Bounds::parity_is))]
     pub fn parity(self, site: usize) -> usize
         requires { site < volume self.d }
         ensures { result ≡ parity_of self.d site }
@@ -127,6 +131,7 @@ impl Extents {
     }
 
     // The k-th site of a parity in ascending order, counted from 0.
+    #[tactic(auto, using(crate::proofs::Order::halves, crate::proofs::Steps::parity_small), unfolding(crate::specs::Order::nth_of))]
     pub fn nth(self, p: usize, k: usize) -> usize
         requires { (p < 2) × (k < half_of self.d) }
         ensures { result ≡ nth_of self.d p k }
