@@ -1,7 +1,9 @@
 -- Steps from a spot with its coordinates carried along, and the spot with the next number.
 use Prim.Native.Nat.{ℕ, ◌+◌, ◌-◌, ◌%◌, ◌<◌, ◌≤◌}
+use mathlib.Core.Bool.{cond}
+use lib.Dec.{ltb}
 use mathlib.Core.List.{List, [], ◌∷◌}
-use mathlib.Core.Path.{◌≡◌, refl, ap, sym}
+use mathlib.Core.Path.{◌≡◌, refl, ap, ap₂, sym, ◌∙◌}
 use native.Mathlib.Decide.{dec_lt}
 use native.Mathlib.Nat.{mod-eq_of_lt, mod_self, div-eq_of_lt, mul-mod_right, mul-div_cancel_left}
 use native.Mathlib.Omega.{arith}
@@ -10,7 +12,7 @@ use Rattle.geometry.specs.declared.Spot.{Spot}
 use Rattle.geometry.specs.Radix.{volume, coords_of, next_coords, Within}
 use Rattle.geometry.specs.Shape.{Shape}
 use Rattle.geometry.specs.Steps.{moved_of, fwd_of, bwd_of, spot_of}
-use Rattle.geometry.proofs.Shape.{axis_in, volume_pos}
+use Rattle.geometry.proofs.Shape.{axis_in, volume_pos, four_are}
 use Rattle.geometry.proofs.Radix.{left_pos, right_pos, coords_within, next_coords_lem}
 use Rattle.geometry.proofs.Steps.{coord_below, moved_coords}
 
@@ -44,6 +46,22 @@ module _ (d : List ℕ) (shape : Shape d) (p : Spot) (spot : p ≡ spot_of d p.s
   spot_within = rw at_coords (coords_within d p.site (volume_pos d shape))
 
 -- ## the next number
+
+-- by cases, as the code has it
+abbrev next_by : (d c : List ℕ) → List ℕ
+next_by d c =
+    let t = get_or c 0 0 in
+    let x = get_or c 1 0 in
+    let y = get_or c 2 0 in
+    let z = get_or c 3 0 in
+    cond (ltb (t + 1) (get_or d 0 0)) ((t + 1) ∷ x ∷ y ∷ z ∷ []) (0 ∷ cond (ltb (x + 1) (get_or d 1 0)) ((x + 1) ∷ y ∷ z ∷ []) (0 ∷ cond (ltb (y + 1) (get_or d 2 0)) ((y + 1) ∷ z ∷ []) (0 ∷ cond (ltb (z + 1) (get_or d 3 0)) ((z + 1) ∷ []) (0 ∷ []))))
+
+next_four : (a b c e t x y z : ℕ) → next_coords (a ∷ b ∷ c ∷ e ∷ []) (t ∷ x ∷ y ∷ z ∷ []) ≡ next_by (a ∷ b ∷ c ∷ e ∷ []) (t ∷ x ∷ y ∷ z ∷ [])
+unfolding next_coords
+next_four a b c e t x y z = refl
+
+pub next_is : (d c : List ℕ) → Shape d → Within d c → next_coords d c ≡ next_by d c
+next_is d c s w = ap₂ next_coords (four_are d s.four) (four_are c (rw w.len s.four)) ∙ next_four _ _ _ _ _ _ _ _
 
 -- past the last site the coordinates begin again
 coords_around : (d : List ℕ) → 0 < volume d → coords_of d (volume d) ≡ coords_of d 0

@@ -5,25 +5,11 @@ ghost use Rattle.geometry.specs.Radix.{volume, next_coords, Within};
 ghost use Rattle.geometry.specs.Steps.{fwd_of, bwd_of, neighbours_of};
 
 use crate::{Position, Strides};
-use geometry::{Extents, Neighbours, Spot};
+use geometry::{Extents, Neighbours, Spot, wrap};
 
-// The number after c, wrapping at e.
-fn one_up(c: usize, e: usize) -> usize
-    requires { (c < e) × (e ≤ 65536) }
-    ensures { result ≡ (c + 1) % e }
-{
-    if c + 1 < e { c + 1 } else { 0 }
-}
-
-// The number before c, wrapping at e.
-fn one_down(c: usize, e: usize) -> usize
-    requires { (c < e) × (e ≤ 65536) }
-    ensures { result ≡ (c + (e - 1)) % e }
-{
-    if 0 < c { c - 1 } else { e - 1 }
-}
-
-// The coordinates of the site with the next number, from a site's.
+// The coordinates of the site with the next number, from a site's. No loop over the axes: it would leave at
+// the first that can go on.
+#[tactic(auto, using(crate::proofs::Spots::next_is))]
 fn next_coords(extents: Extents, c: [usize; 4]) -> [usize; 4]
     requires { Within extents.d c }
     ensures { result ≡ next_coords extents.d c }
@@ -56,7 +42,7 @@ impl Position {
         }
     }
 
-    // All neighbours.
+    // All neighbours, by axis: what a step takes is the axis's number.
     pub fn neighbours(&self) -> Neighbours
         ensures { result ≡ neighbours_of self.now.strides.extents.d self.now.at.site }
     {
@@ -78,7 +64,7 @@ impl Position {
     {
         let Spot { site, mut at } = self.at;
         let c = at[mu];
-        at[mu] = one_up(c, self.strides.extents.d[mu]);
+        at[mu] = wrap(c + 1, self.strides.extents.d[mu]);
         self.at = Spot {
             site: self.strides.up(site, c, mu),
             at,
@@ -93,7 +79,8 @@ impl Position {
     {
         let Spot { site, mut at } = self.at;
         let c = at[mu];
-        at[mu] = one_down(c, self.strides.extents.d[mu]);
+        let e = self.strides.extents.d[mu];
+        at[mu] = wrap(c + (e - 1), e);
         self.at = Spot {
             site: self.strides.down(site, c, mu),
             at,
@@ -106,7 +93,7 @@ impl Position {
         ensures end { self.new.at.site ≡ (self.old.at.site + 1) % volume self.old.strides.extents.d }
     {
         self.at = Spot {
-            site: one_up(self.at.site, self.strides.s[4]),
+            site: wrap(self.at.site + 1, self.strides.s[4]),
             at: next_coords(self.strides.extents, self.at.at),
         };
     }

@@ -6,4 +6,4 @@ pub invariant_of-self : goal.invariant_of-self
 invariant_of-self c =
     let here = c.args.self.now in
     let shape = here.strides.extents.fits in
-    record { below = rw c.up.ensures (fwd_below _ shape _ _ c.requires); spot = spot_up _ shape _ here.spot _ c.requires c.up.ensures c.one_up.ensures }
+    record { below = rw c.up.ensures (fwd_below _ shape _ _ c.requires); spot = spot_up _ shape _ here.spot _ c.requires c.up.ensures c.wrap.ensures }
