@@ -8,16 +8,17 @@ use native.Mathlib.Omega.{arith}
 use lib.ListN.{length, get_or}
 use borrow.Author.Tests.{lt-ltb}
 use Rattle.mat.specs.declared.Su3.{Su3}
-use Rattle.mat.specs.Matrix.{identity_of}
+use Rattle.mat.specs.Matrix.{identity_of, trace_of}
 use Rattle.mat.specs.Product.{mul_of}
 use Rattle.geometry.specs.Radix.{volume, index_of}
 use Rattle.geometry.specs.Steps.{fwd_of}
 use Rattle.geometry.specs.Stride.{stride_of, up_of}
 use Rattle.geometry.proofs.Radix.{index_coords}
-use Rattle.geometry.proofs.Shape.{four_are}
+use Rattle.geometry.specs.Shape.{Shape}
+use Rattle.geometry.proofs.Shape.{axis_in, four_are}
 use Rattle.geometry.proofs.Stride.{stride_up}
 use Rattle.links.specs.Field.{Field}
-use Rattle.gauge.specs.Polyakov.{later_of, time_line_of, space, site_at}
+use Rattle.gauge.specs.Polyakov.{later_of, time_line_of, space, site_at, polyakov_trace}
 
 -- ((1 · U_0(n)) · U_0(n + 1)) · ..
 unfoldable pub line_by : Field → ℕ → ℕ → Su3
@@ -72,6 +73,20 @@ module _ (d : List ℕ) (axis : 0 < length d) (k : ℕ) (place : k < volume (spa
 
   pub line_by_lem : (U : Field) (t : ℕ) → t ≡ nt → line_by U (nt * k) t ≡ time_line_of d U (site_at d 0 k) nt
   line_by_lem U t e = rw (site_at_lem d axis 0 k place, zero-add (nt * k), e) (line_is U nt (omega arith))
+
+-- ## the loop at a place
+
+module _ (d : List ℕ) (shape : Shape d) (k : ℕ) (place : k < volume (space d)) where
+  pub line_in : (t : ℕ) → t < get_or d 0 0 → get_or d 0 0 * k + t < volume d
+  line_in t h = line_below d (axis_in d shape 0 (omega arith)) k t place h
+
+  pub line_first : get_or d 0 0 * k < volume d
+  line_first = omega (arith, line_in 0 (omega (arith, (shape.each 0 (omega arith)).low)))
+
+  -- the last link is the one that brings the line round
+  pub line_around : (U : Field) (p : Su3) (t : ℕ) → p ≡ line_by U (get_or d 0 0 * k) t → t + 1 ≡ get_or d 0 0 → trace_of (mul_of p (U 0 (get_or d 0 0 * k + t))) ≡ polyakov_trace d U k
+  unfolding polyakov_trace
+  line_around U p t e all = rw (line_next U _ t e refl, line_by_lem d (axis_in d shape 0 (omega arith)) k place U _ all)
 
 -- ## the number of places of space
 

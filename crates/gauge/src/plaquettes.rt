@@ -2,14 +2,12 @@
 
 ghost use Rattle.std.specs.Prelude.{◌≡◌, ◌<◌};
 ghost use Rattle.geometry.specs.Radix.{volume};
-ghost use Rattle.geometry.specs.Steps.{fwd_of, neighbours_of};
 ghost use Rattle.links.specs.Field.{place_of};
 ghost use Rattle.gauge.specs.Field.{link_of};
 ghost use Rattle.gauge.specs.Plaquette.{plaquette_at, plaquette_of, planes_sum, average_of, action_of};
 
 use crate::Su3Lattice;
 use crate::traces::Square;
-use geometry::Neighbours;
 use mat::Su3;
 use steps::{Position, Strides};
 
@@ -51,12 +49,12 @@ impl Su3Lattice<'_> {
 
     // The sum of the six traces at a site.
     #[tactic(auto, unfolding(crate::specs::Plaquette::planes_sum, crate::specs::Plaquette::plaquette_of), using(geometry::proofs::Neighbour::fwd_below, geometry::proofs::Neighbour::near_up))]
-    fn planes_sum(&self, n: usize, near: &Neighbours) -> f64
-        requires below { n < volume self.now.extents.d }
-        requires sides { near.now ≡ neighbours_of self.now.extents.d n }
-        ensures { let d = self.now.extents.d in result ≡ planes_sum d (link_of d self.now.links.now) n }
+    fn planes_sum(&self, here: &Position) -> f64
+        requires { here.now.strides.extents ≡ self.now.extents }
+        ensures { let d = self.now.extents.d in result ≡ planes_sum d (link_of d self.now.links.now) here.now.at.site }
     {
-        let [t, x, y, z] = near.up;
+        let n = here.at.site;
+        let [t, x, y, z] = here.neighbours().up;
         0.0 + self.square(n, 0, 1, t, x).trace()
             + self.square(n, 0, 2, t, y).trace()
             + self.square(n, 0, 3, t, z).trace()
@@ -65,7 +63,8 @@ impl Su3Lattice<'_> {
             + self.square(n, 2, 3, y, z).trace()
     }
 
-    // ⟨Re Tr U_P⟩ / 3 over all sites and planes. The coordinates are carried along: no division.
+    // ⟨Re Tr U_P⟩ / 3 over all sites and planes. The coordinates are carried along, so that no site's number is
+    // divided.
     #[tactic(auto, unfolding(crate::specs::Plaquette::average_of))]
     pub fn average_plaquette(&self) -> f64
         ensures { let d = self.now.extents.d in result ≡ average_of d (link_of d self.now.links.now) }
@@ -73,9 +72,8 @@ impl Su3Lattice<'_> {
         let v = self.extents.sites();
         let mut here = Position::new(self.extents, 0);
         let mut sum = 0.0;
-        for n in 0..v {
-            let near = here.neighbours();
-            sum += self.planes_sum(n, &near);
+        for _ in 0..v {
+            sum += self.planes_sum(&here);
             here.next();
         }
         sum / ((v as u32) as f64 * 6.0 * 3.0)

@@ -23,6 +23,7 @@ fn trace(p: Su3, u: Lent) -> C64
 impl Su3Lattice<'_> {
     // The trace of the line around time at the k-th place of space. Its sites have consecutive numbers;
     // of the last product only the diagonal is worked out.
+    #[tactic(auto, using(geometry::proofs::Bounds::shape_low, crate::proofs::TimeLine::line_in, crate::proofs::TimeLine::line_first, crate::proofs::TimeLine::line_none, crate::proofs::TimeLine::line_next))]
     fn loop_trace(&self, k: usize) -> C64
         requires { k < volume (space self.now.extents.d) }
         ensures { let d = self.now.extents.d in result ≡ polyakov_trace d (link_of d self.now.links.now) k }
@@ -37,11 +38,11 @@ impl Su3Lattice<'_> {
     }
 
     // ⟨Tr Π U_0⟩ / 3 over all places of space.
+    #[tactic(auto, unfolding(crate::specs::Polyakov::polyakov_of))]
     pub fn polyakov_loop(&self) -> C64
         ensures { let d = self.now.extents.d in result ≡ polyakov_of d (link_of d self.now.links.now) }
     {
-        let [_, x, y, z] = self.extents.d;
-        let places = x * (y * z);
+        let places = self.extents.space().cells();
         let mut s = C64::ZERO;
         for k in 0..places {
             s += self.loop_trace(k);

@@ -8,7 +8,7 @@ ghost use Rattle.gauge.specs.Staple.{add_staples, staple_of};
 ghost use Rattle.gauge.specs.Paired.{matrix_of};
 
 use crate::Su3Lattice;
-use crate::paired::{Paired, add_matrix, zero_sum};
+use crate::paired::Paired;
 use geometry::Neighbours;
 use mat::Su3;
 use products::Adjoint;
@@ -34,7 +34,7 @@ impl Su3Lattice<'_> {
             &Su3::product(Adjoint(self.lend(nu, s)), Adjoint(self.lend(mu, b))),
             self.lend(nu, b),
         );
-        add_matrix(add_matrix(a, upper), lower)
+        a + upper + lower
     }
 
     // The sum of the six staples around a link. Two calls of `add_staples`, so that it stands by itself
@@ -44,7 +44,7 @@ impl Su3Lattice<'_> {
         ensures { let d = self.now.extents.d in result ≡ staple_of d (link_of d self.now.links.now) n mu }
     {
         let near = Position::new(self.extents, n).neighbours();
-        let mut a = zero_sum();
+        let mut a = Paired::ZERO;
         for nu in 0..mu {
             a = self.add_staples(n, mu, nu, &near, a);
         }

@@ -2,7 +2,7 @@
 // has where the link of a direction at a site begins; links follow each other by eighteen numbers.
 #![tactic(auto)]
 
-ghost use Rattle.std.specs.Prelude.{◌≡◌, ◌+◌, ◌<◌, ◌≤◌, length};
+ghost use Rattle.std.specs.Prelude.{◌≡◌, ◌+◌, ◌<◌, ◌≤◌, length, take, drop};
 ghost use Rattle.mat.specs.Matrix.{at};
 ghost use Rattle.links.specs.Store.{cell_at, put_cell, matrix_at, with_matrix};
 ghost use Rattle.links.specs.Field.{place_of, field_of, Stored};
@@ -17,6 +17,15 @@ pub struct Lent<'a> {
     pub links: &'a [f64],
     pub place: usize,
     ghost room: { place + 18 ≤ length links.now },
+}
+
+impl<'a> Lent<'a> {
+    // Its eighteen numbers.
+    pub fn numbers(&self) -> &'a [f64]
+        ensures { result.now ≡ take 18 (drop self.now.place self.now.links.now) }
+    {
+        &self.links[self.place..][..18]
+    }
 }
 
 impl<'a> Entries for Lent<'a> {
@@ -50,17 +59,18 @@ fn put(links: &mut [f64], p: usize, c: C64)
     links[p + 1] = c.im;
 }
 
-// The matrix at a place. By a loop: `from_fn` says too little of a closure that reads a list.
-#[tactic(auto, unfolding(crate::specs::Store::matrix_at))]
-fn load(links: &[f64], p: usize) -> Su3
-    requires { p + 18 ≤ length links.now }
-    ensures { result ≡ matrix_at links.now p }
-{
-    let mut m = [C64::ZERO; 9];
-    for k in 0..9 {
-        m[k] = cell(links, p + 2 * k);
+// By a loop over the entries' numbers: `from_fn` says too little of a closure that reads a list.
+impl From<Lent<'_>> for Su3 {
+    ghost from_gives = { λ u m. m ≡ matrix_at u.links.now u.place };
+
+    #[tactic(auto, unfolding(crate::specs::Store::matrix_at))]
+    fn from(u: Lent) -> Su3 {
+        let mut m = [C64::ZERO; 9];
+        for k in 0..9 {
+            m[k] = cell(u.links, u.place + 2 * k);
+        }
+        Su3 { m }
     }
-    Su3 { m }
 }
 
 // Stores a matrix at a place.
@@ -87,7 +97,7 @@ pub fn link(links: &[f64], v: usize, mu: usize, n: usize) -> Su3
     requires { Stored links.now v mu n }
     ensures { result ≡ field_of v links.now mu n }
 {
-    load(links, place(v, mu, n))
+    lend(links, v, mu, n).into()
 }
 
 // The same link where it stands.

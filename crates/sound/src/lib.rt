@@ -4,11 +4,12 @@
 ghost use Rattle.std.specs.Prelude.{◌≡◌, ◌+◌, ◌*◌, ◌≤◌, length};
 ghost use Rattle.std.specs.List.{list_all};
 ghost use Rattle.geometry.specs.Radix.{volume};
-ghost use Rattle.links.specs.Store.{matrix_at};
+ghost use Rattle.links.specs.Lent.{lent_of};
 ghost use Rattle.gauge.specs.Field.{link_of};
 ghost use Rattle.sound.specs.Sound.{sound_number, sound_of, unsound_links, Listed};
 
 use gauge::Su3Lattice;
+use links::Lent;
 
 // Whether a number is finite and from -1 to 1. No infinity and no NaN passes the comparisons.
 fn sound_number(x: f64) -> bool
@@ -23,12 +24,12 @@ fn all_sound(numbers: &[f64]) -> bool
     numbers.iter().all(|x| sound_number(*x))
 }
 
-// Whether the matrix at a place is sound.
-fn sound(links: &[f64], p: usize) -> bool
-    requires { p + 18 ≤ length links.now }
-    ensures { result ≡ sound_of (matrix_at links.now p) }
+// Whether a matrix is sound.
+#[tactic(auto, using(crate::proofs::Unsound::sound_numbers))]
+fn sound(u: Lent) -> bool
+    ensures { result ≡ sound_of (lent_of u.entry) }
 {
-    all_sound(&links[p..p + 18])
+    all_sound(u.numbers())
 }
 
 // Writes the numbers of the unsound links to the front of a list, and gives their count. Links and unsound ones are
@@ -40,7 +41,11 @@ pub fn list_unsound(lattice: &Su3Lattice, found: &mut [u32]) -> usize
 {
     let mut count = 0;
     for k in 0..4 * lattice.extents.sites() {
-        if !sound(lattice.links, 18 * k) {
+        let u = Lent {
+            links: lattice.links,
+            place: 18 * k,
+        };
+        if !sound(u) {
             found[count] = k as u32;
             count += 1;
         }

@@ -3,9 +3,9 @@ use Rattle.gauge.specs.Field.{link_of}
 use Rattle.gauge.specs.Plaquette.{sites_sum}
 use Rattle.gauge.proofs.Su3Lattice.average_plaquette.Given as goal
 
-abbrev pub invariant-loop-n : goal.invariant-loop-n
-invariant-loop-n l = record {
+abbrev pub invariant-loop : goal.invariant-loop
+invariant-loop l = record {
   field : l.here.strides.extents ≡ l.self.extents;
-  site : l.here.at.site ≡ l.n % l.v;
-  summed : l.sum ≡ sites_sum l.self.extents.d (link_of l.self.extents.d l.self.links.now) l.n;
+  site : l.here.at.site ≡ l.counter % l.v;
+  summed : l.sum ≡ sites_sum l.self.extents.d (link_of l.self.extents.d l.self.links.now) l.counter;
 }

@@ -2,7 +2,7 @@ use Rattle.std.proofs.Common.{arith}
 use Rattle.folds.proofs.Laws.{fill_none, fill_next}
 use Rattle.mat.proofs.Laws.{fill_each}
 use Rattle.links.specs.Store.{matrix_at}
-use Rattle.links.proofs.load.Goals as goal
+use Rattle.links.proofs.Su3FromLent.from.Goals as goal
 
 pub loop-k-init : goal.loop-k-init
 loop-k-init c = fill_none _ _
