@@ -9,25 +9,7 @@ ghost use Rattle.slices.specs.Parts.{run_sum, wrapped_sum, plane_sum, Reaches};
 
 use crate::Densities;
 use crate::time_slice::TimeSlice;
-use geometry::Extents;
-
-// The number of places of space.
-#[tactic(auto, using(gauge::proofs::TimeLine::places_are))]
-pub fn places(extents: Extents) -> usize
-    ensures places { result ≡ places extents.d }
-    ensures bounds { (0 < result) × (result ≤ 4096) }
-{
-    let d = extents.d;
-    d[1] * (d[2] * d[3])
-}
-
-// A number below 2n, modulo n.
-fn wrap(a: usize, n: usize) -> usize
-    requires { a < n + n }
-    ensures { result ≡ a % n }
-{
-    if a < n { a } else { a - n }
-}
+use geometry::wrap;
 
 // Goes on with loop values, each times a number of the density; these are nt apart.
 #[tactic(auto, unfolding(folds::specs::Folds::fold_to, crate::specs::Parts::run_sum))]
@@ -54,7 +36,7 @@ fn row(loops: &[f64], density: &[f64], nt: usize, rx: usize, sum: f64) -> f64
 }
 
 impl TimeSlice<'_> {
-    // Goes on with a plane of places, row by row.
+    // Goes on with a plane of places, row by row: where a row begins, its number says.
     #[tactic(auto, unfolding(folds::specs::Folds::iter_to, crate::specs::Parts::plane_sum))]
     fn plane(&self, c: [usize; 3], z0: usize, sum: f64) -> f64
         requires { Within (space self.now.extents.d) c × (z0 < get_or self.now.extents.d 3 0) }
@@ -78,7 +60,7 @@ impl TimeSlice<'_> {
         s
     }
 
-    // A cell's sum over the slice, plane by plane, from +0.
+    // A cell's sum over the slice, plane by plane, from +0. The planes too are known by their numbers.
     #[tactic(auto, unfolding(folds::specs::Folds::iter_to))]
     fn cell(&self, c: [usize; 3]) -> f64
         requires { Within (space self.now.extents.d) c }
@@ -101,7 +83,7 @@ pub fn slice_cells(grid: &mut [f64], loops: &[f64], densities: &Densities, time:
     ensures { grid.new ≡ with_slice densities.now.extents.d (number loops.now) densities.now.numbers.now time grid.old }
 {
     let extents = densities.extents;
-    let places = places(extents);
+    let places = extents.space().cells();
     let nx = extents.d[1];
     let ny = extents.d[2];
     for (j, sum) in grid.iter_mut().enumerate() {

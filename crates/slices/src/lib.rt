@@ -7,7 +7,7 @@ mod lists;
 mod time_slice;
 mod totals;
 
-pub use cells::{places, slice_cells};
+pub use cells::slice_cells;
 pub use densities::Densities;
 pub use lists::{all_finite, clear};
 pub use totals::{density_sums, total};

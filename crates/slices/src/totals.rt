@@ -14,7 +14,7 @@ pub fn total(l: &[f64]) -> f64
     l.iter().fold(0.0, |sum, x| sum + *x)
 }
 
-// The densities' sums over all sites, each added to the sum so far.
+// The densities' sums over all sites, each added to the sum so far. By number: there is no list of densities.
 #[tactic(auto, using(crate::proofs::SumsSoFar::density_total, crate::proofs::SumsSoFar::sums_next, crate::proofs::SumsSoFar::sums_are), unfolding(folds::specs::Folds::fill))]
 pub fn density_sums(densities: &Densities, s: [f64; 4]) -> [f64; 4]
     requires { densities.now.count ≤ 4 }

@@ -10,14 +10,6 @@ use crate::{Plane, Site};
 use mat::Su3;
 
 impl Site<'_> {
-    // U_μ(m) for any site m.
-    fn link(&self, mu: usize, m: usize) -> Su3
-        requires { (mu < 4) × (m < volume self.now.lattice.extents.d) }
-        ensures { let l = self.now.lattice in result ≡ link_of l.extents.d l.links.now mu m }
-    {
-        self.lattice.link(mu, m)
-    }
-
     // n + mu
     fn up(&self, mu: usize) -> usize
         requires { mu < 4 }
@@ -82,11 +74,12 @@ impl Plane<'_> {
         ensures { let l = self.now.site.now.lattice in let d = l.extents.d in let n = self.now.site.now.n in let mu = self.now.mu in let nu = self.now.nu in result ≡ upper_left (link_of d l.links.now) mu nu n (bwd_of d n mu) (bwd_of d (fwd_of d n nu) mu) }
     {
         let Plane { site, mu, nu } = *self;
+        let u = site.lattice;
         let b = site.down(mu);
-        site.link(nu, site.n)
-            .mul_dag(site.link(mu, self.above_left()))
-            .mul_dag(site.link(nu, b))
-            * site.link(mu, b)
+        u.link(nu, site.n)
+            .mul_dag(u.link(mu, self.above_left()))
+            .mul_dag(u.link(nu, b))
+            * u.link(mu, b)
     }
 
     // U_μ†(b) U_ν†(w) U_μ(w) U_ν(c): b is n - mu, c is n - nu, w is n - mu - nu.
@@ -94,9 +87,10 @@ impl Plane<'_> {
         ensures { let l = self.now.site.now.lattice in let d = l.extents.d in let n = self.now.site.now.n in let mu = self.now.mu in let nu = self.now.nu in result ≡ lower_left (link_of d l.links.now) mu nu (bwd_of d n mu) (bwd_of d n nu) (bwd_of d (bwd_of d n mu) nu) }
     {
         let Plane { site, mu, nu } = *self;
+        let u = site.lattice;
         let w = self.below_left();
-        let x = site.link(nu, w) * site.link(mu, site.down(mu));
-        let y = site.link(mu, w) * site.link(nu, site.down(nu));
+        let x = u.link(nu, w) * u.link(mu, site.down(mu));
+        let y = u.link(mu, w) * u.link(nu, site.down(nu));
         x.dag_mul(y)
     }
 
@@ -105,11 +99,10 @@ impl Plane<'_> {
         ensures { let l = self.now.site.now.lattice in let d = l.extents.d in let n = self.now.site.now.n in let mu = self.now.mu in let nu = self.now.nu in result ≡ lower_right (link_of d l.links.now) mu nu n (bwd_of d n nu) (fwd_of d (bwd_of d n nu) mu) }
     {
         let Plane { site, mu, nu } = *self;
+        let u = site.lattice;
         let c = site.down(nu);
-        let x = site.link(nu, c).dag_mul(site.link(mu, c));
-        let y = site
-            .link(nu, self.below_right())
-            .mul_dag(site.link(mu, site.n));
+        let x = u.link(nu, c).dag_mul(u.link(mu, c));
+        let y = u.link(nu, self.below_right()).mul_dag(u.link(mu, site.n));
         x * y
     }
 

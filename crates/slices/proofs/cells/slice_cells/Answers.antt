@@ -3,7 +3,7 @@ use Rattle.slices.proofs.SliceAdded.{offset_within, slice_added}
 use Rattle.slices.proofs.cells.slice_cells.Goals as goal
 
 pub cell-requires : goal.cell-requires
-cell-requires c = offset_within _ c.args.densities.now.extents.fits c.places-places.ensures.places c.places-places.ensures.bounds.0 c.loop-j.j
+cell-requires c = let cells = c.cells-places.ensures in offset_within _ c.args.densities.now.extents.fits (rw c.space.ensures at cells.volume) cells.bounds.0 c.loop-j.j
 
 pub returns : goal.returns
 returns c = slice_added _ _ _ _ _ c.loop-j.invariant (omega arith)
