@@ -74,7 +74,6 @@ impl Su3 {
     }
 
     // None of the eighteen numbers is an infinity or a NaN.
-    #[tactic(auto, unfolding(crate::specs::Matrix::finite_matrix))]
     pub fn is_finite(self) -> bool
         ensures { result ≡ finite_matrix self }
     {
