@@ -23,8 +23,7 @@ impl FluxAccumulator {
     fn takes(&self, extents: Extents, count: u32) -> Result<(), Refusal>
         ensures { Checked (own_rows self.now extents.d count) (λ _. (count ≡ self.now.count) × (volume self.now.n ≡ places extents.d)) result }
     {
-        let [_, x, y, z] = extents.d;
-        if count != self.count || self.n != [x, y, z] || self.samples == u64::MAX {
+        if count != self.count || self.n != extents.space().n || self.samples == u64::MAX {
             Err(Refusal::Densities)
         } else {
             Ok(())
@@ -47,7 +46,7 @@ impl FluxAccumulator {
     {
         let (loops, sums) = scratch.split_at_mut(grid.len());
         sums.copy_from_slice(grid);
-        let places = slices::places(lattice.extents);
+        let places = lattice.extents.space().cells();
         let w = gather::gather(
             &mut loops[..places],
             sums,

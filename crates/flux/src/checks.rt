@@ -1,5 +1,5 @@
 // What a call is handed, judged: each check is a row of the table, but for `parameters`.
-#![tactic(auto, unfolding(rows::specs::Refusals::first_refusal, rows::specs::Refusals::refusal_in, crate::specs::Situations::bad_count))]
+#![tactic(auto, unfolding(rows::specs::Refusals::first_refusal, rows::specs::Refusals::refusal_in, crate::specs::Grid::bad_grid, crate::specs::Situations::bad_count))]
 
 ghost use Rattle.std.specs.Prelude.{◌≡◌, [], ◌∷◌};
 ghost use Rattle.rows.specs.Refusals.{Checked};
@@ -8,8 +8,8 @@ ghost use Rattle.gather.specs.Parts.{ParametersFit};
 ghost use Rattle.flux.specs.Grid.{bad_grid};
 ghost use Rattle.flux.specs.Situations.{parameters_rows};
 
-use crate::grid::Grid;
 pub use field_checks::checks::length;
+use geometry::Grid;
 use rows::Refusal;
 
 pub fn grid(n: [usize; 3]) -> Result<Grid, Refusal>

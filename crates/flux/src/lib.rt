@@ -6,7 +6,6 @@
 
 mod addition;
 mod checks;
-mod grid;
 mod means;
 mod start;
 

@@ -16,7 +16,8 @@ use Rattle.gauge.proofs.TimeLine.{places_are, site_below}
 use Rattle.slices.specs.Slices.{places, number, density_at, product_at, slice_sum, with_slice}
 use Rattle.slices.proofs.Filled.{part_at}
 use Rattle.geometry.proofs.Range.{fill_listed}
-use Rattle.slices.proofs.Space.{space_are, shifted_below}
+use Rattle.geometry.proofs.Shape.{space_are}
+use Rattle.slices.proofs.Space.{shifted_below}
 
 -- the coordinates of an offset, of which the last is what is left
 pub coords_by : (d : List ℕ) → Shape d → (r : ℕ) → r < places d → coords_of (space d) r ≡ r % get_or d 1 0 ∷ r / get_or d 1 0 % get_or d 2 0 ∷ r / get_or d 1 0 / get_or d 2 0 ∷ []

@@ -15,7 +15,8 @@ use Rattle.gauge.proofs.TimeLine.{places_are, line_below, site_at_lem}
 use Rattle.slices.specs.Slices.{places, shifted, number, product_at}
 use Rattle.slices.specs.Parts.{wrapped_sum, row_sum, plane_sum, Reaches}
 use Rattle.slices.proofs.Filled.{part_at}
-use Rattle.slices.proofs.Space.{three, space_are, shifted_three, three_below}
+use Rattle.geometry.proofs.Shape.{space_are}
+use Rattle.slices.proofs.Space.{three, shifted_three, three_below}
 
 -- ## planes, then rows, are all places
 

@@ -1,18 +1,12 @@
 -- Places of space by their three coordinates.
-use Rattle.std.proofs.Common.{ℕ, ◌+◌, ◌*◌, ◌%◌, ◌<◌, List, [], ◌∷◌, map, ◌≡◌, length, get_or, drop, refl, ap, mul-zero, add-zero, arith}
+use Rattle.std.proofs.Common.{ℕ, ◌+◌, ◌*◌, ◌%◌, ◌<◌, List, [], ◌∷◌, map, ◌≡◌, length, get_or, refl, mul-zero, add-zero, arith}
 use native.Mathlib.Nat.{mod-lt, mul-le-mul_left}
 use Rattle.folds.proofs.Few.{below_three}
 use Rattle.geometry.specs.Range.{range}
 use Rattle.geometry.specs.Radix.{volume, coords_of, index_of, Within}
-use Rattle.geometry.specs.Shape.{Shape}
 use Rattle.geometry.proofs.Range.{length-listed, listed_at}
 use Rattle.geometry.proofs.Radix.{coords_within, index_below, coords_index}
-use Rattle.geometry.proofs.Shape.{four_are}
-use Rattle.gauge.specs.Polyakov.{space}
 use Rattle.slices.specs.Slices.{shifted}
-
-pub space_are : (d : List ℕ) → Shape d → space d ≡ get_or d 1 0 ∷ get_or d 2 0 ∷ get_or d 3 0 ∷ []
-space_are d s = ap (λ (l : List ℕ). drop 1 l) (four_are d s.four)
 
 -- ## three extents
 

@@ -2,7 +2,7 @@ use Rattle.std.proofs.Common.{rules, ◌≡◌, false, sym, ◌∙◌, eqb-true}
 use borrow.Author.Tests.{not-false}
 use Rattle.rows.specs.Refusals.{first_refusal, refusal_in}
 use Rattle.flux.specs.Situations.{other_count, other_grid, full_samples}
-use Rattle.flux.proofs.Grids.{same_cells}
+use Rattle.flux.proofs.Grids.{other_is, same_cells}
 use Rattle.flux.proofs.FluxAccumulator.takes.Goals as goal
 use Rattle.flux.proofs.FluxAccumulator.takes.Goals.{then-count-self, else-count-self, then-ne, else-ne}
 
@@ -14,7 +14,7 @@ returns-else-self c =
       | else-ne w ↦ elim c.if-count-self.branch [
         | then-count-self v ↦ absurd (v.if-count-self.true (eqb-true _ _ (not-false _ (sym v.value-is ∙ w.if-ne.false))))
         | else-count-self v ↦
-            let same : other_grid c.args.self.now.n c.args.extents.d ≡ false = unfold other_grid in search rules in
+            let same : other_grid c.args.self.now.n c.args.extents.d ≡ false = sym (other_is _ _ c.args.extents.fits v.space.ensures) ∙ search rules in
             record { refusal = search rules; made = (search rules, same_cells _ _ c.args.extents.fits same) }
       ]
     ]
