@@ -1,7 +1,7 @@
 use Rattle.std.proofs.Common.{◌≡◌, map}
 use Rattle.geometry.specs.Range.{range}
 use Rattle.stairs.specs.Staircase.{place_at, step_at, Reached}
-use Rattle.stairs.proofs.climb.staircase.Given as goal
+use Rattle.stairs.proofs.offsets.Offset.staircase.Given as goal
 
 abbrev pub invariant-loop : goal.invariant-loop
 invariant-loop l = record {
