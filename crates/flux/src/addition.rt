@@ -90,11 +90,11 @@ impl FluxAccumulator {
             count: count as usize,
             numbers: densities,
         };
-        let new = self.added(&lattice, &densities, quarks, grid, scratch);
-        sums::store(grid, scratch, new)?;
+        let sums = self.added(&lattice, &densities, quarks, grid, scratch);
+        sums::store(grid, scratch, sums)?;
         self.samples = sums::more_samples(self.samples, extents.sites());
-        self.w = new.w;
-        self.s = new.s;
+        self.w = sums.w;
+        self.s = sums.s;
         Ok(())
     }
 }

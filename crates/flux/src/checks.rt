@@ -21,11 +21,7 @@ pub fn grid(n: [usize; 3]) -> Result<Grid, Refusal>
 }
 
 // Offsets, time length and count of densities.
-pub fn parameters(
-    offsets: [[i32; 3]; 3],
-    t_len: usize,
-    count: u32,
-) -> Result<[Offset; 3], Refusal>
+pub fn parameters(offsets: [[i32; 3]; 3], t_len: usize, count: u32) -> Result<[Offset; 3], Refusal>
     ensures { Checked (parameters_rows offsets t_len count) (λ q. (offsets_of q ≡ offsets) × ParametersFit t_len count) result }
 {
     let quarks = stairs::checks::quarks(offsets)?;

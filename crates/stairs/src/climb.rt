@@ -1,17 +1,18 @@
 #![tactic(auto, unfolding(crate::specs::Staircase::staircase_of))]
 
-ghost use Rattle.std.specs.Prelude.{◌≡◌, map};
+ghost use Rattle.std.specs.Prelude.{◌≡◌, length, map};
 ghost use Rattle.stairs.specs.Quarks.{offsets_of};
-ghost use Rattle.stairs.specs.Staircase.{staircase_of};
+ghost use Rattle.stairs.specs.Staircase.{staircase_of, steps_to};
 
 use crate::line::Line;
 use crate::{Offset, Stairs, Step};
 
 impl Offset {
     // The staircase to it.
-    #[tactic(auto, using(crate::proofs::Places::near, crate::proofs::Places::place_none, crate::proofs::Places::laid_few), unfolding(geometry::specs::Range::range, crate::specs::Staircase::staircase_of))]
+    #[tactic(auto, using(crate::proofs::Places::near, crate::proofs::Places::place_none, crate::proofs::Places::steps_low), unfolding(geometry::specs::Range::range, crate::specs::Staircase::staircase_of))]
     pub fn staircase(self) -> Stairs
-        ensures { result ≡ staircase_of self.d }
+        ensures steps { result ≡ staircase_of self.d }
+        ensures count { length result ≡ steps_to self.d }
     {
         let d = self.d;
         let line = Line::to(d);

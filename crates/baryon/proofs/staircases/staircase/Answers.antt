@@ -1,14 +1,22 @@
-use Rattle.std.proofs.Common.{rules, false, arith, ap, ◌∙◌, ◌≡◌, ◌<◌, length, ◌≤◌, get_or, take_all, drop, map, take}
+use Rattle.std.proofs.Common.{rules, arith, ap, ◌<◌, false, length, get_or}
 use Rattle.std.proofs.lemmas.Grind.{common_steps}
 use Rattle.rows.specs.Refusals.{first_refusal, refusal_in, answered, unless}
-use Rattle.stairs.specs.declared.Step.{Step}
-use Rattle.stairs.specs.Staircase.{staircase_of, steps_to}
-use Rattle.stairs.proofs.Places.{length-staircase}
 use Rattle.baryon.specs.Situations.{bad_step_room}
 use Rattle.baryon.proofs.Along.{laid_more}
 use Rattle.baryon.proofs.staircases.staircase.Goals as goal
-use Rattle.baryon.proofs.staircases.staircase.Goals.{After-as_slice-all}
 
--- the steps are those of the offset that is handed in, and as many
-are : (g : goal.Generics) (c : After-as_slice-all g) → c.as_slice-all.result.now ≡ staircase_of c.args.d
-are g c = search rules
+pub loop-i-preserved : goal.loop-i-preserved
+loop-i-preserved g c =
+    let all = c.as_slice-all.result.now in
+    let i = c.loop-i.i in
+    record {
+      laid = λ code h.
+          let axis : (get_or all i (record { axis = 0; forward = false })).axis < 4 = c.as_slice-all.ensures.axes i _ c.loop-i-test.true in
+          laid_more code all c.args.steps.now c.loop-i.steps i _ c.loop-i-test.true (omega (arith, ap length c.as_slice-all.ensures.steps)) (c.loop-i.invariant.laid code h) (search rules) (h _ _ axis c.from.ensures);
+    }
+
+pub returns-clause-laid : goal.returns-clause-laid
+unfolding first_refusal refusal_in answered unless bad_step_room
+returns-clause-laid g c = λ code h.
+    let laid = c.loop-i.invariant.laid code h in
+    grind (arith, common_steps)
