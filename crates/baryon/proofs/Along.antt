@@ -3,7 +3,6 @@ use Rattle.std.proofs.Common.{ℕ, ◌+◌, ◌<◌, List, [], ◌∷◌, ◌++�
 use Rattle.std.proofs.Math.Seq.{set-append_seam}
 use Rattle.std.proofs.Math.ListN.{length-map}
 use Rattle.std.proofs.lemmas.List.{get_or-map, map_more, drop_more}
-use Rattle.std.proofs.lemmas.Grind.{common_steps}
 use Rattle.stairs.specs.declared.Step.{Step}
 use Rattle.baryon.specs.Calls.{Stands}
 

@@ -21,8 +21,8 @@ pub fn baryon_loop(
     let extents = checks::extents(extents)?;
     let lattice = checks::lattice(extents, links)?;
     checks::site(extents, site)?;
-    stairs::checks::quarks(offsets)?;
+    let quarks = stairs::checks::quarks(offsets)?;
     stairs::checks::time(t_len)?;
-    let paths = stairs::staircases(offsets);
+    let paths = stairs::staircases(quarks);
     checks::finite(contraction::baryon_loop(Walker::new(lattice, site), &paths, t_len))
 }

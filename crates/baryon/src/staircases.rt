@@ -16,12 +16,13 @@ pub fn staircase<S: Copy + From<Step>>(d: [i32; 3], steps: &mut [S]) -> Result<u
     ensures laid { (code : Step → S) → Gives S.from_gives code → StaircaseCall code d steps.old result steps.new }
     ensures few { IfOk result (λ n. n ≤ 96) }
 {
-    stairs::checks::offset(d)?;
-    if steps.len() < stairs::steps_to(d) {
+    let offset = stairs::checks::offset(d)?;
+    if steps.len() < offset.steps() {
         return Err(Refusal::Room);
     }
-    let stairs = stairs::staircase(d);
+    let stairs = offset.staircase();
     let all = stairs.as_slice();
+    // Not by a `zip` of `steps.iter_mut()`: a proof knows nothing of what an adapter of it has written.
     for (i, step) in all.iter().enumerate() {
         steps[i] = S::from(*step);
     }

@@ -7,6 +7,6 @@ use Rattle.flux.specs.declared.FluxAccumulator.{FluxAccumulator}
 -- an addition whose inputs are accepted; d are the field's extents, e the densities'
 pub record Addable (acc : FluxAccumulator) (d e : List ℕ) (count grid scratch : ℕ) : Type 0 where
   pub same : e ≡ d
-  pub own : ParametersFit acc.offsets acc.t_len count
+  pub own : ParametersFit acc.t_len count
   pub cells : grid ≡ count * places d
   pub twice : scratch ≡ grid + grid

@@ -5,6 +5,7 @@ ghost use Rattle.geometry.specs.Radix.{volume};
 ghost use Rattle.rows.specs.Refusals.{Checked};
 ghost use Rattle.rows.specs.declared.Refusal.{Refusal};
 ghost use Rattle.gauge.specs.Field.{link_of};
+ghost use Rattle.stairs.specs.Quarks.{offsets_of};
 ghost use Rattle.contraction.specs.Baryon.{baryon_of};
 ghost use Rattle.slices.specs.Slices.{places, grid_of, loops_of, sums_of};
 ghost use Rattle.flux.specs.Situations.{own_rows};
@@ -17,6 +18,8 @@ use gauge::Su3Lattice;
 use geometry::Extents;
 use rows::Refusal;
 use slices::Densities;
+use stairs::Offset;
+use sums::Sums;
 
 impl FluxAccumulator {
     // Whether a field and its densities are like those before, with room for more samples.
@@ -31,18 +34,19 @@ impl FluxAccumulator {
     }
 
     // Adds up a field: the grid in the second half of the scratch, and the new sums of the loops and densities.
-    // A host lends one list for both.
+    // A host lends one list for both. The offsets are the accumulator's, which a check has made.
     fn added(
         &self,
         lattice: &Su3Lattice,
         densities: &Densities,
+        quarks: [Offset; 3],
         grid: &[f64],
         scratch: &mut [f64],
-    ) -> (f64, [f64; 4])
+    ) -> Sums
         requires { Addable self.now lattice.now.extents.d densities.now.extents.d densities.now.count (length grid.now) (length scratch.old) }
-        ensures loops { result.0 ≡ loops_of lattice.now.extents.d (baryon_of lattice.now.extents.d (link_of lattice.now.extents.d lattice.now.links.now) self.now.t_len self.now.offsets) self.now.w }
-        ensures sums { result.1 ≡ sums_of lattice.now.extents.d densities.now.numbers.now densities.now.count self.now.s }
-        ensures grid { drop (length grid.now) scratch.new ≡ grid_of lattice.now.extents.d (baryon_of lattice.now.extents.d (link_of lattice.now.extents.d lattice.now.links.now) self.now.t_len self.now.offsets) densities.now.numbers.now self.now.t_len densities.now.count grid.now }
+        ensures loops { result.w ≡ loops_of lattice.now.extents.d (baryon_of lattice.now.extents.d (link_of lattice.now.extents.d lattice.now.links.now) self.now.t_len (offsets_of quarks)) self.now.w }
+        ensures sums { result.s ≡ sums_of lattice.now.extents.d densities.now.numbers.now densities.now.count self.now.s }
+        ensures grid { drop (length grid.now) scratch.new ≡ grid_of lattice.now.extents.d (baryon_of lattice.now.extents.d (link_of lattice.now.extents.d lattice.now.links.now) self.now.t_len (offsets_of quarks)) densities.now.numbers.now self.now.t_len densities.now.count grid.now }
     {
         let (loops, sums) = scratch.split_at_mut(grid.len());
         sums.copy_from_slice(grid);
@@ -52,11 +56,12 @@ impl FluxAccumulator {
             sums,
             lattice,
             densities,
-            self.offsets,
+            quarks,
             self.t_len,
             self.w,
         );
-        (w, slices::density_sums(densities, self.s))
+        let s = slices::density_sums(densities, self.s);
+        Sums { w, s }
     }
 
     // Adds a field: its loops, its densities and their products.
@@ -77,18 +82,18 @@ impl FluxAccumulator {
         checks::length(densities.len(), count as usize * extents.sites())?;
         checks::length(grid.len(), cells)?;
         checks::length(scratch.len(), 2 * cells)?;
-        checks::parameters(self.offsets, self.t_len, count)?;
+        let quarks = checks::parameters(self.offsets, self.t_len, count)?;
         self.takes(extents, count)?;
         let densities = Densities {
             extents,
             count: count as usize,
             numbers: densities,
         };
-        let (w, s) = self.added(&lattice, &densities, grid, scratch);
-        sums::store(grid, scratch, w, s)?;
+        let sums = self.added(&lattice, &densities, quarks, grid, scratch);
+        sums::store(grid, scratch, sums)?;
         self.samples = sums::more_samples(self.samples, extents.sites());
-        self.w = w;
-        self.s = s;
+        self.w = sums.w;
+        self.s = sums.s;
         Ok(())
     }
 }

@@ -1,11 +1,9 @@
 -- What the loop over the slices asks for, and what it hands on.
-use Rattle.std.specs.Prelude.{ℕ, ◌*◌, ◌<◌, ◌≤◌, false, List, ◌≡◌, Float, ℤ, length, get_or}
-use Rattle.stairs.specs.Offsets.{bad_quarks}
+use Rattle.std.specs.Prelude.{ℕ, ◌*◌, ◌<◌, ◌≤◌, List, ◌≡◌, Float, length, get_or}
 use Rattle.slices.specs.Slices.{places, grid_of, loops_of}
 
--- offsets, time length and count of densities in range
-pub record ParametersFit (o : List (List ℤ)) (t count : ℕ) : Type 0 where
-  pub quarks : bad_quarks o ≡ false
+-- time length and count of densities in range
+pub record ParametersFit (t count : ℕ) : Type 0 where
   pub time : t ≤ 64
   pub some : 0 < count
   pub few : count ≤ 4
@@ -16,9 +14,9 @@ pub record Slice (w : List Float) (d : List ℕ) (t : ℕ) : Type 0 where
   pub room : length w ≡ places d
 
 -- e are the densities' extents
-pub record Gathering (w grid : List Float) (d e : List ℕ) (o : List (List ℤ)) (t count : ℕ) : Type 0 where
+pub record Gathering (w grid : List Float) (d e : List ℕ) (t count : ℕ) : Type 0 where
   pub same : e ≡ d
-  pub own : ParametersFit o t count
+  pub own : ParametersFit t count
   pub room : length w ≡ places d
   pub cells : length grid ≡ count * places d
 

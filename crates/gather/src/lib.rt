@@ -5,6 +5,7 @@
 ghost use Rattle.std.specs.Prelude.{◌≡◌, ◌+◌, ◌*◌, map, get_or};
 ghost use Rattle.geometry.specs.Range.{range};
 ghost use Rattle.gauge.specs.Field.{link_of};
+ghost use Rattle.stairs.specs.Quarks.{offsets_of};
 ghost use Rattle.contraction.specs.Baryon.{loop_of, baryon_of};
 ghost use Rattle.slices.specs.Slices.{places};
 ghost use Rattle.gather.specs.Parts.{Slice, Gathering, Gathered};
@@ -12,7 +13,7 @@ ghost use Rattle.gather.specs.Parts.{Slice, Gathering, Gathered};
 use gauge::Su3Lattice;
 use paths::Walker;
 use slices::Densities;
-use stairs::Stairs;
+use stairs::{Offset, Stairs};
 
 // Writes the loops of the slice t, one for each place, along three staircases.
 #[tactic(auto, unfolding(folds::specs::Folds::fill))]
@@ -33,12 +34,12 @@ pub fn gather(
     grid: &mut [f64],
     lattice: &Su3Lattice,
     densities: &Densities,
-    quarks: [[i32; 3]; 3],
+    quarks: [Offset; 3],
     t_len: usize,
     w: f64,
 ) -> f64
-    requires { Gathering loops.old grid.old lattice.now.extents.d densities.now.extents.d quarks t_len densities.now.count }
-    ensures { Gathered (baryon_of lattice.now.extents.d (link_of lattice.now.extents.d lattice.now.links.now) t_len quarks) lattice.now.extents.d densities.now.numbers.now t_len densities.now.count grid.old w result grid.new }
+    requires { Gathering loops.old grid.old lattice.now.extents.d densities.now.extents.d t_len densities.now.count }
+    ensures { Gathered (baryon_of lattice.now.extents.d (link_of lattice.now.extents.d lattice.now.links.now) t_len (offsets_of quarks)) lattice.now.extents.d densities.now.numbers.now t_len densities.now.count grid.old w result grid.new }
 {
     let paths = stairs::staircases(quarks);
     let nt = lattice.extents.d[0];

@@ -40,10 +40,6 @@ pub laid_next : (d : List ℤ) (i : ℕ) {p : List ℤ} {a : ℕ} {s : Step} {ol
 unfolding step_at
 laid_next d i l e f g h = rw (h, l, g, f, e, add-one i) (sym (listed_next (step_at d) i))
 
--- as many as there are steps so far
-pub laid_few : (d : List ℤ) (i : ℕ) {steps : List Step} → bad_offsets d ≡ false → i < steps_to d → steps ≡ map (step_at d) (range i) → length steps < 96
-laid_few d i h l e = let low = steps_low d h in rw (e, length-listed (step_at d) i) (omega arith)
-
 pub long_place : (d : List ℤ) (i : ℕ) → length (place_at d i) ≡ 3
 unfolding place_at stepped_to
 long_place d zero = refl

@@ -1,12 +1,12 @@
 -- Whole numbers: steps of one in i32, offsets in reach.
-use Rattle.std.proofs.Common.{get_or, ℕ, zero, suc, ◌+◌, ◌<◌, ◌≤◌, List, [], ◌∷◌, ◌≡◌, refl, ap, false, ℤ, pos, negsuc, nat_abs, ◌+ℤ◌, arith, w32, SFits, to_z, of_z}
+use Rattle.std.proofs.Common.{ℕ, zero, suc, ◌+◌, ◌<◌, ◌≤◌, List, [], ◌∷◌, ◌≡◌, refl, ap, false, ℤ, pos, negsuc, nat_abs, ◌+ℤ◌, arith, w32, SFits, to_z, of_z}
 use Rattle.std.proofs.lemmas.Bool.{or_parts}
 use Rattle.std.proofs.lemmas.Int.{ints, to_z-of_z}
 use Rattle.std.proofs.Math.ListN.{set}
 use Rattle.std.specs.Int.{int_signum}
 use Rattle.stairs.specs.Line.{along_of}
 use Rattle.stairs.specs.Staircase.{stepped_to, Reached}
-use Rattle.stairs.specs.Offsets.{bad_offset, bad_offsets, bad_quarks}
+use Rattle.stairs.specs.Offsets.{bad_offset, bad_offsets}
 
 -- ## a step of one
 
@@ -39,10 +39,3 @@ unfolding bad_offsets
 each_offset [] a h = unfold bad_offset in refl
 each_offset (x ∷ d) zero h = (or_parts _ _ h).0
 each_offset (x ∷ d) (suc a) h = each_offset d a (or_parts (bad_offset x) _ h).1
-
--- and the offsets of three quarks
-pub each_quark : (o : List (List ℤ)) (q : ℕ) → bad_quarks o ≡ false → bad_offsets (get_or o q []) ≡ false
-unfolding bad_quarks
-each_quark [] q h = unfold bad_offsets in refl
-each_quark (d ∷ o) zero h = (or_parts _ _ h).0
-each_quark (d ∷ o) (suc q) h = each_quark o q (or_parts (bad_offsets d) _ h).1

@@ -1,31 +1,27 @@
 // What is out of range, as row 11 of the table has it.
-#![tactic(auto, unfolding(rows::specs::Refusals::first_refusal, rows::specs::Refusals::refusal_in, crate::specs::Offsets::bad_time))]
+#![tactic(auto, unfolding(rows::specs::Refusals::first_refusal, rows::specs::Refusals::refusal_in, crate::specs::Offsets::bad_time, crate::specs::Offsets::bad_quarks))]
 
-ghost use Rattle.std.specs.Prelude.{◌≡◌, ◌≤◌, [], ◌∷◌, false};
+ghost use Rattle.std.specs.Prelude.{◌≡◌, ◌≤◌, [], ◌∷◌};
 ghost use Rattle.rows.specs.Refusals.{Checked};
 ghost use Rattle.rows.specs.declared.Refusal.{Refusal};
 ghost use Rattle.stairs.specs.Offsets.{bad_offsets, bad_quarks, bad_time};
+ghost use Rattle.stairs.specs.Quarks.{offsets_of};
 
+use crate::Offset;
 use rows::Refusal;
 
-// An offset in reach.
-pub fn offset(d: [i32; 3]) -> Result<(), Refusal>
-    ensures { Checked ((bad_offsets d, Refusal.Reach) ∷ []) (λ _. bad_offsets d ≡ false) result }
+pub fn offset(d: [i32; 3]) -> Result<Offset, Refusal>
+    ensures { Checked ((bad_offsets d, Refusal.Reach) ∷ []) (λ o. o.d ≡ d) result }
 {
-    if crate::bad_offsets(d) {
-        return Err(Refusal::Reach);
-    }
-    Ok(())
+    Offset::new(d).ok_or(Refusal::Reach)
 }
 
-// Three of them.
-pub fn quarks(o: [[i32; 3]; 3]) -> Result<(), Refusal>
-    ensures { Checked ((bad_quarks o, Refusal.Reach) ∷ []) (λ _. bad_quarks o ≡ false) result }
+// The offsets of three quarks.
+pub fn quarks(o: [[i32; 3]; 3]) -> Result<[Offset; 3], Refusal>
+    ensures { Checked ((bad_quarks o, Refusal.Reach) ∷ []) (λ q. offsets_of q ≡ o) result }
 {
-    if crate::bad_quarks(o) {
-        return Err(Refusal::Reach);
-    }
-    Ok(())
+    let [a, b, c] = o;
+    Ok([offset(a)?, offset(b)?, offset(c)?])
 }
 
 // A time length of at most 64.

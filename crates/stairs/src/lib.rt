@@ -10,8 +10,8 @@ mod offsets;
 ghost use Rattle.std.specs.Prelude.{◌<◌, ◌≤◌, ◌≡◌, [], ◌∷◌, ◌++◌, length, All};
 
 use arrayvec::ArrayVec;
-pub use climb::{staircase, staircases};
-pub use offsets::{bad_offsets, bad_quarks, steps_to};
+pub use climb::staircases;
+pub use offsets::Offset;
 use std::marker::Model;
 
 // A unit step along an axis of the lattice: 0 is time, 1 to 3 are x, y, z.

@@ -13,25 +13,32 @@ pub fn more_samples(samples: u64, sites: usize) -> u64
     samples.saturating_add(sites as u64)
 }
 
+// The sums of the loops and of each density.
+#[derive(Clone, Copy, Debug, PartialEq)]
+pub struct Sums {
+    pub w: f64,
+    pub s: [f64; 4],
+}
+
 // The test that all new sums are finite.
-fn finite_sums(grid: &[f64], w: f64, s: [f64; 4]) -> Result<(), Refusal>
-    ensures { result ≡ answered (sums_refusal grid.now w s) tt }
+fn finite_sums(grid: &[f64], sums: Sums) -> Result<(), Refusal>
+    ensures { result ≡ answered (sums_refusal grid.now sums.w sums.s) tt }
 {
-    if slices::all_finite(grid) && slices::all_finite(&s) && rows::is_finite(w) {
+    if slices::all_finite(grid) && slices::all_finite(&sums.s) && rows::is_finite(sums.w) {
         Ok(())
     } else {
         Err(Refusal::NotFinite)
     }
 }
 
-// Stores a grid that stands in the second half of the scratch, where it, w and s are finite. The scratch is
-// cleared.
-pub fn store(grid: &mut [f64], scratch: &mut [f64], w: f64, s: [f64; 4]) -> Result<(), Refusal>
+// Stores a grid that stands in the second half of the scratch, where it and the sums are finite. The
+// scratch is cleared.
+pub fn store(grid: &mut [f64], scratch: &mut [f64], sums: Sums) -> Result<(), Refusal>
     requires { length scratch.old ≡ length grid.old + length grid.old }
-    ensures { SumsStored w s grid.old scratch.old result grid.new scratch.new }
+    ensures { SumsStored sums.w sums.s grid.old scratch.old result grid.new scratch.new }
 {
     let g = grid.len();
-    let finite = finite_sums(&scratch[g..], w, s);
+    let finite = finite_sums(&scratch[g..], sums);
     if finite.is_ok() {
         grid.copy_from_slice(&scratch[g..]);
     }

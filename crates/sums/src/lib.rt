@@ -5,5 +5,5 @@
 mod ending;
 mod means;
 
-pub use ending::{more_samples, store};
+pub use ending::{Sums, more_samples, store};
 pub use means::{mean, ratios_finite, store_ratios};

@@ -32,6 +32,7 @@ pub fn store_ratios(sums: &[f64], samples: f64, means: f64, out: &mut [f64])
     requires { length out.old ≡ length sums.now }
     ensures { out.new ≡ map (ratio samples means) sums.now }
 {
+    // Not by a `zip` of `out.iter_mut()`: a proof knows nothing of what an adapter of it has written.
     for (i, x) in out.iter_mut().enumerate() {
         *x = ratio(samples, means, sums[i]);
     }

@@ -1,6 +1,7 @@
 use Rattle.std.proofs.Common.{ℕ, ◌<◌, ◌≡◌, get_or, ap, sym, ◌∙◌, arith}
 use native.Mathlib.Nat.{mod-lt}
 use lib.Ieee.{Float, nan}
+use Rattle.stairs.specs.Quarks.{offsets_of}
 use Rattle.contraction.specs.Baryon.{baryon_of}
 use Rattle.gauge.specs.Field.{link_of}
 use Rattle.gauge.proofs.TimeLine.{site_at_lem}
@@ -12,7 +13,7 @@ use Rattle.gather.proofs.gather.Goals.{After-slice_loops}
 
 -- the loop value at each site
 abbrev loop_value : After-slice_loops → ℕ → Float
-loop_value c = let q = c.args in baryon_of q.lattice.now.extents.d (link_of q.lattice.now.extents.d q.lattice.now.links.now) q.t_len q.quarks
+loop_value c = let q = c.args in baryon_of q.lattice.now.extents.d (link_of q.lattice.now.extents.d q.lattice.now.links.now) q.t_len (offsets_of q.quarks)
 
 -- the loop values of this slice
 filled : (c : After-slice_loops) → Loops c.args.lattice.now.extents.d (loop_value c) c.loop-t.t c.slice_loops.new.loops

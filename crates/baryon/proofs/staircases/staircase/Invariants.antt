@@ -1,4 +1,4 @@
-use Rattle.std.proofs.Common.{◌≡◌, ◌≤◌, ◌++◌, map, take, drop, length}
+use Rattle.std.proofs.Common.{◌≡◌, ◌++◌, map, take, drop}
 use Rattle.stairs.specs.declared.Step.{Step}
 use Rattle.baryon.specs.Calls.{Gives}
 use Rattle.baryon.proofs.staircases.staircase.Given as goal
