@@ -16,3 +16,6 @@ line_after text name value same e f g h = rw (h, g, f, e, same) (simp append_ass
 pub length_line : (name value : List ℕ) → length (text_line name value) ≡ length name + length value + 2
 unfolding text_line
 length_line name value = rw (length-append, length-append, length-append) (omega arith)
+
+pub length_after : (text name value : List ℕ) {next : List ℕ} → next ≡ text ++ text_line name value → length next ≡ length text + length name + length value + 2
+length_after text name value e = rw (e, length-append, length_line) (omega arith)
