@@ -6,16 +6,13 @@ ghost use Rattle.arrays.specs.Arrays.{plane_numbers};
 
 use mat::Su3;
 
-// Six matrices, one after the other. By loops: `from_fn` says too little of a closure that reads a list.
+// Six matrices, one after the other.
 pub fn plane_numbers(f: [Su3; 6]) -> [f64; 108]
     ensures { result ≡ plane_numbers f }
 {
     let mut out = [0.0; 108];
-    for p in 0..6 {
-        let m = <[f64; 18]>::from(f[p]);
-        for i in 0..18 {
-            out[18 * p + i] = m[i];
-        }
+    for (p, u) in f.iter().enumerate() {
+        out[18 * p..18 * p + 18].copy_from_slice(&<[f64; 18]>::from(*u));
     }
     out
 }

@@ -1,7 +1,7 @@
 -- How many digits a number has, and the lines of numbers; a finite number is no NaN.
 use Prim.Native.Nat.{ℕ, zero, suc, ◌+◌, ◌*◌, ◌/◌, ◌-◌, ◌^◌, ◌≤◌, ◌<◌}
 use mathlib.Core.Bool.{Bool, true, false, cond, not, true≢false}
-use mathlib.Core.Path.{◌≡◌, refl, sym, ap, ◌∙◌}
+use mathlib.Core.Path.{◌≡◌, refl, sym}
 use native.Mathlib.Nat.{one-le-pow, pow-suc, pow-le-pow_right}
 use native.Mathlib.Omega.{arith}
 use lib.Dec.{T, ltb}
@@ -9,10 +9,11 @@ use lib.Ieee.{Float, nan, inf, fin, is_nan}
 use lib.Ieee.Scale.{finite}
 use borrow.Author.Tests.{ltb-true, ltb-false}
 use Rattle.io.specs.Digits.{IsDigitCount}
-use mathlib.Core.List.{List}
+use mathlib.Core.List.{List, ◌++◌}
 use lib.ListN.{take}
 use Rattle.io.specs.Digits.{last_digits}
-use Rattle.ascii.specs.Lines.{places_of, decimal_text, hex_text}
+use Rattle.std.proofs.Common.{Fits, w64}
+use Rattle.ascii.specs.Lines.{places_of, decimal_text, hex_text, text_line}
 
 -- the least number of so many digits
 least : (n s : ℕ) → IsDigitCount 10 1 n (suc (suc s)) → 10 ^ s * 10 ≤ n
@@ -78,12 +79,12 @@ no_nan nan h = absurd (true≢false (sym h))
 no_nan (inf s) h = tt
 no_nan (fin s m e) h = tt
 
--- the text of digits that were put at the start of a list
-module _ (r : ℕ) (out : List ℕ) where
-  pub decimal_digits : (n : ℕ) → n < 2 ^ 64 → IsDigitCount 10 1 n r → take r out ≡ last_digits 10 r n → take r out ≡ decimal_text n
+-- the line of digits that were put at the start of a list
+module _ (text name out : List ℕ) (r : ℕ) {next : List ℕ} (line : next ≡ text ++ text_line name (take r out)) where
+  pub decimal_line : (n : ℕ) → Fits w64 n → IsDigitCount 10 1 n r → take r out ≡ last_digits 10 r n → next ≡ text ++ text_line name (decimal_text n)
   unfolding decimal_text
-  decimal_digits n small f e = rw (← places_fewest 19 n r (omega arith) f) e
+  decimal_line n small f e = rw (← places_fewest 19 n r (omega arith) f, ← e) line
 
-  pub hex_digits : (n : ℕ) → n < 2 ^ 64 → IsDigitCount 16 16 n r → take r out ≡ last_digits 16 r n → take r out ≡ hex_text n
+  pub hex_line : (n : ℕ) → Fits w64 n → IsDigitCount 16 16 n r → take r out ≡ last_digits 16 r n → next ≡ text ++ text_line name (hex_text n)
   unfolding hex_text
-  hex_digits n small f e = e ∙ ap (λ k. last_digits 16 k n) (sixteen n r small f)
+  hex_line n small f e = rw (line, e, sixteen n r (omega arith) f)

@@ -17,10 +17,11 @@ fn put<const N: usize>(text: &mut ArrayVec<u8, N>, bytes: &[u8])
     text.try_extend_from_slice(bytes).unwrap();
 }
 
-#[tactic(auto, using(crate::proofs::Laws::line_after))]
+#[tactic(auto, using(crate::proofs::Laws::line_after, crate::proofs::Laws::length_after))]
 fn line<const N: usize>(text: &mut ArrayVec<u8, N>, name: &str, value: &[u8])
     requires { array_vec_len text.old + length name.now + length value.now + 2 ≤ N }
-    ensures { text.new.items ≡ text.old.items ++ text_line name.now value.now }
+    ensures items { text.new.items ≡ text.old.items ++ text_line name.now value.now }
+    ensures len { array_vec_len text.new ≡ array_vec_len text.old + length name.now + length value.now + 2 }
 {
     put(text, name.as_bytes());
     put(text, b" ");
@@ -29,6 +30,7 @@ fn line<const N: usize>(text: &mut ArrayVec<u8, N>, name: &str, value: &[u8])
 }
 
 // A count in decimal.
+#[tactic(auto, using(crate::proofs::Counted::twenty))]
 pub fn count_line<const N: usize>(text: &mut ArrayVec<u8, N>, name: &str, n: u64)
     requires { array_vec_len text.old + length name.now + 22 ≤ N }
     ensures items { text.new.items ≡ text.old.items ++ text_line name.now (decimal_text n) }
@@ -40,6 +42,7 @@ pub fn count_line<const N: usize>(text: &mut ArrayVec<u8, N>, name: &str, n: u64
 }
 
 // A word in 16 hexadecimal digits.
+#[tactic(auto, using(crate::proofs::Counted::sixteen))]
 fn word_line<const N: usize>(text: &mut ArrayVec<u8, N>, name: &str, n: u64)
     requires { array_vec_len text.old + length name.now + 18 ≤ N }
     ensures items { text.new.items ≡ text.old.items ++ text_line name.now (hex_text n) }

@@ -7,6 +7,7 @@ ghost use Rattle.bounds.specs.Magnitude.{all_within_two};
 
 // Whether every number is from -2 to 2. There is no early exit, so that the loop takes several
 // numbers a turn.
+#[tactic(auto, unfolding(folds::specs::Folds::all_below, crate::specs::Magnitude::within_two))]
 pub fn all_within_two(numbers: &[f64]) -> bool
     ensures { result ≡ all_within_two numbers.now }
 {

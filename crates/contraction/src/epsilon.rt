@@ -12,6 +12,7 @@ fn term(a: C64, b: C64, c: C64, sign: f64) -> C64
 }
 
 // A sum, and then the six terms of three rows whose order has the sign p.
+#[tactic(auto, unfolding(crate::specs::Epsilon::six_of))]
 fn add_six(sum: C64, a: Row, b: Row, c: Row, p: f64) -> C64
     ensures { result ≡ six_of sum a b c p }
 {

@@ -4,6 +4,8 @@
 
 ghost use Rattle.std.specs.Prelude.{◌≡◌, ◌*◌, ◌<◌, ◌^◌, [], ◌∷◌, ℕ, List, length};
 ghost use Rattle.std.specs.Float.Ieee.{Float};
+ghost use Rattle.std.specs.Float.Ieee.Scale.{finite};
+ghost use Rattle.std.specs.List.{list_all};
 ghost use Rattle.rows.specs.Finite.{finite_numbers, bad_numbers};
 ghost use Rattle.rows.specs.Refusals.{first_refusal, answered};
 ghost use Rattle.fields.specs.Places.{placed};
@@ -25,7 +27,7 @@ pub trait Filling<const N: usize> {
 }
 
 fn all_finite(numbers: &[f64]) -> bool
-    ensures { result ≡ finite_numbers numbers.now }
+    ensures { result ≡ list_all finite numbers.now }
 {
     numbers.iter().all(|x| rows::is_finite(*x))
 }

@@ -10,7 +10,8 @@ use geometry::Extents;
 use mat::Su3;
 use rows::Refusal;
 
-// Sets every link of a list to the identity, by its number, as `links` goes by places.
+// Sets every link of a list to the identity. By number. Tried: `chunks_exact_mut`, after which a proof knows the list's
+// length alone.
 fn set_identities(links: &mut [f64], extents: Extents)
     requires { length links.old ≡ 72 * volume extents.d }
     ensures { links.new ≡ cold_links extents.d }

@@ -40,6 +40,7 @@ fn add(
     Ok(())
 }
 
+// By number, since a call picks a density by its number.
 fn mean_lines(rt: &impl Print, acc: FluxAccumulator, grid: &[f64]) -> Result<()> {
     number_line(rt, "mean_loop", acc.mean_loop())?;
     print!(rt; "correlation")?;

@@ -5,6 +5,7 @@ use sample::hash::Fnv;
 use sample::inputs::{Kind, SEED};
 
 // 96 sites, so links are 6912 numbers. Each hash is over the answers of calls at one site, all sites in turn.
+// By number: a field has no list of its sites.
 const EXTENTS: [usize; 4] = [2, 6, 4, 2];
 
 // The loops' quarks, x, y, z each.

@@ -1,7 +1,8 @@
 use anyhow::Result;
 use sample::hash::{Bits, Filled};
 
-// Lines of calls that fill a list. It holds sevens before, and still does where a call is refused.
+// Lines of calls that fill a list. It holds sevens before, and still does where a call is refused. An axis is given to
+// a call as its number.
 
 pub fn density_lines(rt: &impl Print, extents: [usize; 4], links: &[f64]) -> Result<()> {
     let mut density = [7.0; 96];

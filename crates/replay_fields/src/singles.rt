@@ -1,6 +1,7 @@
 use sample::hash::Fnv;
 
-// Hashes over the answers of calls at one site, all sites in turn.
+// Hashes over the answers of calls at one site, all sites in turn. By number: a field has no list of its sites, and a
+// direction is given to a call as its number.
 
 // For each direction mu, each nu: the same one too, which is refused.
 pub fn clover_leaves(extents: [usize; 4], links: &[f64]) -> Fnv {

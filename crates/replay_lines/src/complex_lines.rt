@@ -25,7 +25,8 @@ fn number(k: u64) -> f64 {
     }
 }
 
-// A line for a call: the hash of its answers to every four of the numbers.
+// A line for a call: the hash of its answers to every four of the numbers. By number: its four hexadecimal digits pick
+// the four.
 fn line<T: Hashed, F: Fn(C64, C64) -> T>(rt: &impl Print, name: &str, call: F) -> Result<()>
     requires { F.IsAlwaysCallable call }
 {

@@ -19,6 +19,7 @@ pub fn fill(kind: Kind, links: &mut [f64]) {
     }
 }
 
+// Here and in `staples` by number: a field has no list of its sites, and a direction is given to a call as its number.
 fn plaquettes(extents: [usize; 4], links: &[f64]) -> Fnv {
     let mut h = Fnv::EMPTY;
     for site in 0..links.len() / 72 {

@@ -2,6 +2,8 @@ use anyhow::{Error, Result};
 use rows::row_and_value;
 use sample::hash::Fnv;
 
+// All by number: a field has no list of its sites, and a direction is given to a call as its number.
+
 fn coords(extents: [usize; 4], sites: usize) -> Fnv {
     let mut h = Fnv::EMPTY;
     for n in 0..sites {

@@ -69,6 +69,9 @@ fn if_finite(u: Su3) -> Result<Su3, Stuck>
     }
 }
 
+// Rows stand one by one, here and below: each subgroup combines two and leaves the third, so that an array of them would
+// be taken apart and made again each time.
+
 // The last subgroup, for the rows a, b, c of u and the quaternion of w. The third row that it gives
 // u is not read again, and so not worked out.
 fn third_subgroup(a: Row, b: Row, c: Row, v: Quat) -> Result<Su3, Stuck>
