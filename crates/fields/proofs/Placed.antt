@@ -36,7 +36,7 @@ use Rattle.fields.specs.Places.{placed, link_numbers, density_numbers}
 
 -- ## row 10's test of lists laid one after the other
 
-pub finite_list : (l : List Float) → list_all finite l ≡ finite_numbers l
+finite_list : (l : List Float) → list_all finite l ≡ finite_numbers l
 unfolding finite_numbers
 finite_list l = sym (all_listed finite l nan)
 

@@ -4,8 +4,6 @@
 
 ghost use Rattle.std.specs.Prelude.{◌≡◌, ◌*◌, ◌<◌, ◌^◌, [], ◌∷◌, ℕ, List, length};
 ghost use Rattle.std.specs.Float.Ieee.{Float};
-ghost use Rattle.std.specs.Float.Ieee.Scale.{finite};
-ghost use Rattle.std.specs.List.{list_all};
 ghost use Rattle.rows.specs.Finite.{finite_numbers, bad_numbers};
 ghost use Rattle.rows.specs.Refusals.{first_refusal, answered};
 ghost use Rattle.fields.specs.Places.{placed};
@@ -26,12 +24,6 @@ pub trait Filling<const N: usize> {
         ensures { result ≡ numbers self.now k };
 }
 
-fn all_finite(numbers: &[f64]) -> bool
-    ensures { result ≡ list_all finite numbers.now }
-{
-    numbers.iter().all(|x| rows::is_finite(*x))
-}
-
 // Whether all numbers are finite. There is no list of them: those of a place are worked out from its number, here and
 // in `store`.
 fn is_finite<const N: usize, W: Filling<N>>(what: &W) -> bool
@@ -39,7 +31,7 @@ fn is_finite<const N: usize, W: Filling<N>>(what: &W) -> bool
     ensures { result ≡ finite_numbers (placed (W.numbers what.now) (W.places what.now)) }
 {
     for k in 0..what.places() {
-        if !all_finite(&what.numbers(k)) {
+        if !rows::all_finite(&what.numbers(k)) {
             return false;
         }
     }

@@ -24,7 +24,7 @@ pub struct Sums {
 fn finite_sums(grid: &[f64], sums: Sums) -> Result<(), Refusal>
     ensures { result ≡ answered (sums_refusal grid.now sums.w sums.s) tt }
 {
-    if slices::all_finite(grid) && slices::all_finite(&sums.s) && rows::is_finite(sums.w) {
+    if rows::all_finite(grid) && rows::all_finite(&sums.s) && rows::is_finite(sums.w) {
         Ok(())
     } else {
         Err(Refusal::NotFinite)
