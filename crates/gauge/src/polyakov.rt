@@ -37,7 +37,7 @@ impl Su3Lattice<'_> {
         trace(p, self.lend(0, first + last))
     }
 
-    // ⟨Tr Π U_0⟩ / 3 over all places of space.
+    // ⟨Tr Π U_0⟩ / 3 over all places of space. By number: a field has no list of them.
     #[tactic(auto, unfolding(crate::specs::Polyakov::polyakov_of))]
     pub fn polyakov_loop(&self) -> C64
         ensures { let d = self.now.extents.d in result ≡ polyakov_of d (link_of d self.now.links.now) }

@@ -34,7 +34,8 @@ fn two_links(links: &[f64], a: usize, b: usize) -> Su3
     Su3::product(Lent { links, place: a }, Lent { links, place: b })
 }
 
-// The real part of the i-th entry on the diagonal of a·b·(c·e)†.
+// The real part of the i-th entry on the diagonal of a·b·(c·e)†. By the entries' numbers, here and below: no list has
+// the entries of a product that is not worked out.
 fn diagonal(a: Lent, b: Lent, c: Lent, e: Lent, i: usize) -> f64
     requires { i < 3 }
     ensures { result ≡ diagonal_at (lent_of a.entry) (lent_of b.entry) (lent_of c.entry) (lent_of e.entry) i }
