@@ -16,7 +16,7 @@ use slices::Densities;
 use stairs::{Offset, Stairs};
 
 // Writes the loops of the slice t, one for each place, along three staircases.
-#[tactic(auto, unfolding(folds::specs::Folds::fill))]
+#[tactic(auto, using(geometry::proofs::Range::fill_listed), unfolding(folds::specs::Folds::fill))]
 fn slice_loops(loops: &mut [f64], lattice: &Su3Lattice, t: usize, paths: &[Stairs; 3], t_len: usize)
     requires { Slice loops.old lattice.now.extents.d t }
     ensures { loops.new ≡ map (λ k. loop_of lattice.now.extents.d (link_of lattice.now.extents.d lattice.now.links.now) t_len (t + get_or lattice.now.extents.d 0 0 * k) paths.now) (range (places lattice.now.extents.d)) }
@@ -29,6 +29,7 @@ fn slice_loops(loops: &mut [f64], lattice: &Su3Lattice, t: usize, paths: &[Stair
 
 // Goes over the slices: adds each cell's sum to the grid, and the loops' to w. The first list has room for the
 // loops of a slice.
+#[tactic(auto, using(slices::proofs::Laws::loops_start, slices::proofs::Laws::grid_start))]
 pub fn gather(
     loops: &mut [f64],
     grid: &mut [f64],
@@ -44,6 +45,7 @@ pub fn gather(
     let paths = stairs::staircases(quarks);
     let nt = lattice.extents.d[0];
     let mut sum = w;
+    // By a slice's time: there is no list of the times.
     for t in 0..nt {
         slice_loops(loops, lattice, t, &paths, t_len);
         sum += slices::total(loops);

@@ -50,6 +50,7 @@ impl Line {
         ensures in_space { result < 3 }
     {
         let mut best = None;
+        // By an axis' number: it is what is answered, and both the place and the offset are read at it.
         for a in 0..3 {
             if p[a] != self.d[a] {
                 let mut q = p;

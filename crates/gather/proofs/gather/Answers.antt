@@ -7,7 +7,7 @@ use Rattle.gauge.specs.Field.{link_of}
 use Rattle.gauge.proofs.TimeLine.{site_at_lem}
 use Rattle.geometry.proofs.Range.{length-listed, listed_at}
 use Rattle.geometry.proofs.Shape.{axis_in}
-use Rattle.slices.proofs.Laws.{Loops, loops_start, loops_next, loops_done, grid_start, grid_next, grid_done}
+use Rattle.slices.proofs.Laws.{Loops, loops_next, loops_done, grid_next, grid_done}
 use Rattle.gather.proofs.gather.Goals as goal
 use Rattle.gather.proofs.gather.Goals.{After-slice_loops}
 
@@ -24,9 +24,6 @@ filled c =
       len = rw c.slice_loops.ensures (length-listed _ _);
       each = λ k h. rw (c.slice_loops.ensures, c.staircases-paths.ensures) (listed_at _ nan _ k h ∙ ap (loop_value c) (sym (site_at_lem e.d (axis_in _ e.fits 0 (omega arith)) c.loop-t.t k h)));
     }
-
-pub loop-t-init : goal.loop-t-init
-loop-t-init c = (loops_start _ _ _, grid_start _ _ _ _ _ _ c.requires.cells)
 
 pub loop-t-preserved : goal.loop-t-preserved
 loop-t-preserved c =

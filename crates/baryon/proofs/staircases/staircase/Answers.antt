@@ -1,7 +1,4 @@
 use Rattle.std.proofs.Common.{rules, arith, ap, ◌<◌, false, length, get_or}
-use Rattle.std.proofs.lemmas.Grind.{common_steps}
-use Rattle.rows.specs.Refusals.{first_refusal, refusal_in, answered, unless}
-use Rattle.baryon.specs.Situations.{bad_step_room}
 use Rattle.baryon.proofs.Along.{laid_more}
 use Rattle.baryon.proofs.staircases.staircase.Goals as goal
 
@@ -14,9 +11,3 @@ loop-i-preserved g c =
           let axis : (get_or all i (record { axis = 0; forward = false })).axis < 4 = c.as_slice-all.ensures.axes i _ c.loop-i-test.true in
           laid_more code all c.args.steps.now c.loop-i.steps i _ c.loop-i-test.true (omega (arith, ap length c.as_slice-all.ensures.steps)) (c.loop-i.invariant.laid code h) (search rules) (h _ _ axis c.from.ensures);
     }
-
-pub returns-clause-laid : goal.returns-clause-laid
-unfolding first_refusal refusal_in answered unless bad_step_room
-returns-clause-laid g c = λ code h.
-    let laid = c.loop-i.invariant.laid code h in
-    grind (arith, common_steps)
