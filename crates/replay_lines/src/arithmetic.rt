@@ -5,7 +5,7 @@ use rows::row_and_value;
 use sample::hash::{Fnv, Hashed};
 use sample::inputs::{Pair, Set, block, pair_at, quaternion};
 
-// A line for a call: the hash of its answers to 400 pairs. By number: each pair is made of its own.
+// A line for a call: the hash of its answers to 400 pairs. By number: a pair is made of its number.
 fn line<T: Hashed, F: Fn(Pair) -> T>(rt: &impl Print, set: Set, name: &str, call: F) -> Result<()>
     requires { F.IsAlwaysCallable call }
 {

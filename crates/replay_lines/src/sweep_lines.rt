@@ -65,7 +65,7 @@ fn half_sweep(
 }
 
 // A whole sweep of a field of a kind, which is made here: the list is one of extents 4, 2, 2, 2.
-// Nothing in it is refused. By number: a half-sweep's has its direction and its parity, and the first is made in frames.
+// Nothing in it is refused. By number: half-sweep n is of direction n / 2 and parity n % 2, the first one in frames.
 pub fn lines(rt: &impl Print, kind: Kind, links: &mut [f64]) -> Result<()> {
     fill(kind, links);
     println!(rt; "sweep {kind} {}", Fnv::of(&*links))?;
