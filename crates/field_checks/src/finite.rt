@@ -41,6 +41,8 @@ impl Numeric for Su3 {
     }
 }
 
+// Always inline: called, it would copy what it answers.
+#[inline(always)]
 pub fn finite<T: Numeric>(x: T) -> Result<T, Refusal>
     ensures { result ≡ answered (first_refusal ((T.bad x, Refusal.NotFinite) ∷ [])) x }
 {

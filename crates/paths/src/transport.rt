@@ -12,7 +12,8 @@ use stairs::Stairs;
 use steps::Position;
 
 impl<'a> Walker<'a> {
-    // At a site.
+    // At a site. Always inline: called, it would copy the walker.
+    #[inline(always)]
     pub fn new(lattice: Su3Lattice<'a>, site: usize) -> Self
         requires { site < volume lattice.extents.d }
         ensures field { result.lattice ≡ lattice.entry }

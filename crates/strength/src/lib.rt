@@ -43,6 +43,8 @@ pub struct Plane<'a> {
 }
 
 impl<'a> Site<'a> {
+    // Always inline: called, it would copy the site.
+    #[inline(always)]
     pub fn new(lattice: Su3Lattice<'a>, n: usize) -> Self
         requires { n < volume lattice.extents.d }
         ensures field { result.lattice ≡ lattice.entry }
