@@ -23,23 +23,23 @@ pub record Low (d : List ℕ) : Type 0 where
 pub shape_low : (d : List ℕ) → Shape d → Low d
 shape_low d s = record { t = (s.each 0 (omega arith)).low; x = (s.each 1 (omega arith)).low; y = (s.each 2 (omega arith)).low; z = (s.each 3 (omega arith)).low }
 
-pub record Small (l : List ℕ) : Type 0 where
+pub record High (l : List ℕ) : Type 0 where
   pub t : get_or l 0 0 ≤ 16
   pub x : get_or l 1 0 ≤ 16
   pub y : get_or l 2 0 ≤ 16
   pub z : get_or l 3 0 ≤ 16
 
-small : (l : List ℕ) → ((mu : ℕ) → mu < 4 → get_or l mu 0 ≤ 16) → Small l
-small l at = record { t = at 0 (omega arith); x = at 1 (omega arith); y = at 2 (omega arith); z = at 3 (omega arith) }
+high : (l : List ℕ) → ((mu : ℕ) → mu < 4 → get_or l mu 0 ≤ 16) → High l
+high l at = record { t = at 0 (omega arith); x = at 1 (omega arith); y = at 2 (omega arith); z = at 3 (omega arith) }
 
-pub shape_small : (d : List ℕ) → Shape d → Small d
-shape_small d s = small d (λ mu h. (s.each mu h).high)
+pub shape_high : (d : List ℕ) → Shape d → High d
+shape_high d s = high d (λ mu h. (s.each mu h).high)
 
-pub within_small : (d c : List ℕ) → Shape d → Within d c → Small c
-within_small d c s w = small c (λ mu h. omega (arith, w.each mu (omega (arith, s.four)), (s.each mu h).high))
+pub within_high : (d c : List ℕ) → Shape d → Within d c → High c
+within_high d c s w = high c (λ mu h. omega (arith, w.each mu (omega (arith, s.four)), (s.each mu h).high))
 
-pub coords_small : (d : List ℕ) (n : ℕ) → Shape d → Small (coords_of d n)
-coords_small d n s = within_small d (coords_of d n) s (coords_within d n (volume_pos d s))
+pub coords_high : (d : List ℕ) (n : ℕ) → Shape d → High (coords_of d n)
+coords_high d n s = within_high d (coords_of d n) s (coords_within d n (volume_pos d s))
 
 -- ## the cells of a grid
 
@@ -69,15 +69,15 @@ pub record Index (d c : List ℕ) : Type 0 where
   pub z : get_or d 2 0 * get_or c 3 0 ≤ 256
   pub yz : get_or d 1 0 * (get_or c 2 0 + get_or d 2 0 * get_or c 3 0) ≤ 4352
   pub xyz : get_or d 0 0 * (get_or c 1 0 + get_or d 1 0 * (get_or c 2 0 + get_or d 2 0 * get_or c 3 0)) ≤ 69888
-  pub small : Small c
+  pub high : High c
 
 pub index_small : (d c : List ℕ) → Shape d → Within d c → Index d c
 index_small d c s w =
-    let e = shape_small d s in
-    let at = within_small d c s w in
+    let e = shape_high d s in
+    let at = within_high d c s w in
     let z = product 16 16 e.y at.z in
     let yz : get_or d 1 0 * (get_or c 2 0 + get_or d 2 0 * get_or c 3 0) ≤ 4352 = product 16 272 e.x (omega (arith, z, at.y)) in
-    record { z = z; yz = yz; xyz = product 16 4368 e.t (omega (arith, yz, at.x)); small = at }
+    record { z = z; yz = yz; xyz = product 16 4368 e.t (omega (arith, yz, at.x)); high = at }
 
 pub index_is : (d c : List ℕ) → Shape d → Within d c → get_or c 0 0 + get_or d 0 0 * (get_or c 1 0 + get_or d 1 0 * (get_or c 2 0 + get_or d 2 0 * get_or c 3 0)) ≡ index_of d c
 unfolding index_of

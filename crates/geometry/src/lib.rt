@@ -79,7 +79,7 @@ impl Extents {
     }
 
     // The number of sites.
-    #[tactic(auto, using(crate::proofs::Shape::volume_is, crate::proofs::Bounds::shape_small))]
+    #[tactic(auto, using(crate::proofs::Shape::volume_is, crate::proofs::Bounds::shape_high))]
     pub fn sites(self) -> usize
         ensures { result ≡ volume self.d }
     {
@@ -121,7 +121,7 @@ impl Extents {
     }
 
     // 0 or 1: whether the coordinates' sum is even or odd.
-    #[tactic(auto, using(crate::proofs::Bounds::coords_small, crate::proofs::Bounds::parity_is))]
+    #[tactic(auto, using(crate::proofs::Bounds::coords_high, crate::proofs::Bounds::parity_is))]
     pub fn parity(self, site: usize) -> usize
         requires { site < volume self.d }
         ensures { result ≡ parity_of self.d site }
