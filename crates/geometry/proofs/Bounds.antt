@@ -110,3 +110,16 @@ unfolding parity_of total
 parity_is d c n s e =
     let l : length c ≡ 4 = rw (e, (coords_within d n (volume_pos d s)).len) s.four in
     rw (← e, four_are c l) (omega arith)
+
+pub grid_low : (n : List ℕ) → GridShape n → (0 < get_or n 0 0) × (0 < get_or n 1 0) × (0 < get_or n 2 0)
+grid_low n g =
+    let low : (a : ℕ) → a < 3 → 0 < get_or n a 0 = λ a h. omega (arith, (g.each a h).low) in
+    (low 0 (omega arith), low 1 (omega arith), low 2 (omega arith))
+
+pub cell_coords : (n : List ℕ) (k : ℕ) → GridShape n → k < volume n → k % get_or n 0 0 ∷ k / get_or n 0 0 % get_or n 1 0 ∷ k / get_or n 0 0 / get_or n 1 0 ∷ [] ≡ coords_of n k
+unfolding coords_of volume
+cell_coords n k g h =
+    let low = grid_low n g in
+    let a = quotient_below low.0 (rw (three_are 0 n g.three) at h) in
+    let b = quotient_below low.1 a in
+    rw (three_are 0 n g.three, mod-eq_of_lt (rw mul-one at b))

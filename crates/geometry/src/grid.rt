@@ -1,6 +1,6 @@
 ghost use Rattle.std.specs.List.{list_all};
 ghost use Rattle.std.specs.Prelude.{◌≡◌, ◌<◌, ◌≤◌, ◌↔◌, true, IsSome, IfSome};
-ghost use Rattle.geometry.specs.Radix.{volume};
+ghost use Rattle.geometry.specs.Radix.{volume, coords_of};
 ghost use Rattle.geometry.specs.Shape.{GridShape, extent_test};
 
 // The extents of a grid in space along x, y and z.
@@ -32,5 +32,16 @@ impl Grid {
     {
         let [x, y, z] = self.n;
         x * (y * z)
+    }
+
+    // The coordinates x, y, z of a place. What is left of its number for z is below its extent.
+    #[tactic(auto, using(crate::proofs::Bounds::grid_low, crate::proofs::Bounds::cell_coords))]
+    pub fn coords(self, k: usize) -> [usize; 3]
+        requires { k < volume self.n }
+        ensures { result ≡ coords_of self.n k }
+    {
+        let [x, y, _] = self.n;
+        let a = k / x;
+        [k % x, a % y, a / y]
     }
 }

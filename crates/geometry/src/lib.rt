@@ -39,7 +39,7 @@ pub fn wrap(a: usize, n: usize) -> usize
 pub fn extent_fits(e: usize) -> bool
     ensures { result ≡ extent_test e }
 {
-    2 <= e && e <= 16 && e % 2 == 0
+    (2..=16).contains(&e) && e % 2 == 0
 }
 
 // Whether a field, or a grid in space, can have these extents.

@@ -59,15 +59,14 @@ fn put(links: &mut [f64], p: usize, c: C64)
     links[p + 1] = c.im;
 }
 
-// By a loop over the entries' numbers: `from_fn` says too little of a closure that reads a list.
 impl From<Lent<'_>> for Su3 {
     ghost from_gives = { λ u m. m ≡ matrix_at u.links.now u.place };
 
     #[tactic(auto, unfolding(crate::specs::Store::matrix_at))]
     fn from(u: Lent) -> Su3 {
         let mut m = [C64::ZERO; 9];
-        for k in 0..9 {
-            m[k] = cell(u.links, u.place + 2 * k);
+        for (k, entry) in m.iter_mut().enumerate() {
+            *entry = cell(u.links, u.place + 2 * k);
         }
         Su3 { m }
     }

@@ -7,7 +7,7 @@ use mathlib.Core.Path.{◌≡◌, refl, ap, ap₂, sym, ◌∙◌}
 use native.Mathlib.Decide.{dec_lt}
 use native.Mathlib.Nat.{mod-eq_of_lt, mod_self, div-eq_of_lt, mul-mod_right, mul-div_cancel_left}
 use native.Mathlib.Omega.{arith}
-use lib.ListN.{get_or, set}
+use lib.ListN.{length, get_or, set}
 use Rattle.geometry.specs.declared.Spot.{Spot}
 use Rattle.geometry.specs.Radix.{volume, coords_of, next_coords, Within}
 use Rattle.geometry.specs.Shape.{Shape}
@@ -81,3 +81,9 @@ module _ (d : List ℕ) (pos : 0 < volume d) (p : Spot) (spot : p ≡ spot_of d 
       go (no h) =
           let last : p.site + 1 ≡ volume d = omega arith in
           rw (last, mod_self (volume d), coords_around d pos)
+
+-- ## all neighbours
+
+-- a list of four, by its numbers
+pub four_by : (f : ℕ → ℕ) (l : List ℕ) → length l ≡ 4 → get_or l 0 0 ≡ f 0 → get_or l 1 0 ≡ f 1 → get_or l 2 0 ≡ f 2 → get_or l 3 0 ≡ f 3 → l ≡ f 0 ∷ f 1 ∷ f 2 ∷ f 3 ∷ []
+four_by f l n a b c e = rw (four_are l n, a, b, c, e)

@@ -42,18 +42,16 @@ impl Position {
         }
     }
 
-    // All neighbours, by axis: what a step takes is the axis's number.
+    // All neighbours.
     pub fn neighbours(&self) -> Neighbours
         ensures { result ≡ neighbours_of self.now.strides.extents.d self.now.at.site }
     {
         let Spot { site, at } = self.at;
-        let mut up = [0usize; 4];
-        let mut down = [0usize; 4];
-        for mu in 0..4 {
-            up[mu] = self.strides.up(site, at[mu], mu);
-            down[mu] = self.strides.down(site, at[mu], mu);
+        let strides = self.strides;
+        Neighbours {
+            up: std::array::from_fn(|mu| strides.up(site, at[mu], mu)),
+            down: std::array::from_fn(|mu| strides.down(site, at[mu], mu)),
         }
-        Neighbours { up, down }
     }
 
     // To the next site along an axis.

@@ -5,4 +5,4 @@ use Rattle.links.specs.Store.{cell_at}
 use Rattle.links.proofs.Su3FromLent.from.Given as goal
 
 abbrev pub invariant-loop-k : goal.invariant-loop-k
-invariant-loop-k l = l.m ≡ fill (λ k. cell_at l.u.links.now (l.u.place + 2 * k)) zeros l.k
+invariant-loop-k l = l.entry-items ≡ fill (λ k. cell_at l.u.links.now (l.u.place + 2 * k)) zeros l.k
