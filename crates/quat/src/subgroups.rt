@@ -1,6 +1,6 @@
 #![tactic(auto, unfolding(rows::specs::Refusals::first_refusal, rows::specs::Refusals::refusal_in, rows::specs::Refusals::answered, crate::specs::Subgroup::subgroup_refusal, crate::specs::Subgroup::sub_block, crate::specs::Subgroup::left_mul_sub, crate::specs::Subgroup::sub_block_call, crate::specs::Subgroup::left_mul_sub_call))]
 
-ghost use Rattle.std.specs.Prelude.{◌≡◌, ◌<◌, [], ◌∷◌, ltb, IfOk};
+ghost use Rattle.std.specs.Prelude.{◌≡◌, ◌<◌, [], ◌∷◌, ltb};
 ghost use Rattle.rows.specs.declared.Refusal.{Refusal};
 ghost use Rattle.rows.specs.Refusals.{Checked};
 ghost use Rattle.quat.specs.Subgroup.{subgroup_of, with_row, block_of, left_mul_rows, sub_block_call, left_mul_sub_call};
@@ -27,19 +27,26 @@ impl Mat2 {
     };
 }
 
+// The rows of a 3×3 matrix that a subgroup acts on.
+#[derive(Clone, Copy)]
+struct Acted {
+    rows: Subgroup,
+    ghost inside: { (rows.i < 3) × (rows.j < 3) },
+}
+
 // Worked out, since a look into the table would copy it.
 #[tactic(auto, using(crate::proofs::Laws::pair_is), unfolding(rows::specs::Refusals::first_refusal, rows::specs::Refusals::refusal_in))]
-fn pair(subgroup: usize) -> Result<Subgroup, Refusal>
-    ensures pair { Checked ((ltb 2 subgroup, Refusal.Direction) ∷ []) (λ p. p ≡ subgroup_of subgroup) result }
-    ensures rows { IfOk result (λ p. (p.i < 3) × (p.j < 3)) }
+fn acted_on(subgroup: usize) -> Result<Acted, Refusal>
+    ensures { Checked ((ltb 2 subgroup, Refusal.Direction) ∷ []) (λ p. p.rows ≡ subgroup_of subgroup) result }
 {
     if subgroup > 2 {
         return Err(Refusal::Direction);
     }
-    Ok(Subgroup {
+    let rows = Subgroup {
         i: subgroup / 2,
         j: (subgroup + 3) / 2,
-    })
+    };
+    Ok(Acted { rows })
 }
 
 #[tactic(auto, unfolding(mat::specs::Unitary::row_of))]
@@ -66,10 +73,10 @@ fn with_row(mut u: Su3, i: usize, v: Row) -> Su3
 }
 
 #[tactic(auto, unfolding(crate::specs::Subgroup::block_of))]
-fn block(u: Su3, i: usize, j: usize) -> Mat2
-    requires { (i < 3) × (j < 3) }
-    ensures { result ≡ block_of u i j }
+fn block(u: Su3, on: Acted) -> Mat2
+    ensures { result ≡ block_of u on.rows.i on.rows.j }
 {
+    let Subgroup { i, j } = on.rows;
     Mat2 {
         m00: u.m[3 * i + i],
         m01: u.m[3 * i + j],
@@ -79,10 +86,10 @@ fn block(u: Su3, i: usize, j: usize) -> Mat2
 }
 
 #[tactic(auto, unfolding(crate::specs::Subgroup::left_mul_rows))]
-fn left_mul_rows(u: Su3, i: usize, j: usize, x: Mat2) -> Su3
-    requires { (i < 3) × (j < 3) }
-    ensures { result ≡ left_mul_rows u i j x }
+fn left_mul_rows(u: Su3, on: Acted, x: Mat2) -> Su3
+    ensures { result ≡ left_mul_rows u on.rows.i on.rows.j x }
 {
+    let Subgroup { i, j } = on.rows;
     let a = row(u, i);
     let b = row(u, j);
     let top = Row::combine(x.m00, a, x.m01, b);
@@ -94,14 +101,12 @@ fn left_mul_rows(u: Su3, i: usize, j: usize, x: Mat2) -> Su3
 pub fn sub_block(u: Su3, subgroup: usize) -> Result<Mat2, Refusal>
     ensures { result ≡ sub_block_call u subgroup }
 {
-    let p = pair(subgroup)?;
-    Ok(block(u, p.i, p.j))
+    Ok(block(u, acted_on(subgroup)?))
 }
 
 // `u` with its subgroup's rows left-multiplied by the 2×2 matrix `x`.
 pub fn left_mul_sub(u: Su3, subgroup: usize, x: Mat2) -> Result<Su3, Refusal>
     ensures { result ≡ left_mul_sub_call u subgroup x }
 {
-    let p = pair(subgroup)?;
-    Ok(left_mul_rows(u, p.i, p.j, x))
+    Ok(left_mul_rows(u, acted_on(subgroup)?, x))
 }

@@ -55,6 +55,7 @@ impl Position {
     }
 
     // To the next site along an axis.
+    #[tactic(auto, using(crate::proofs::Spots::coord, crate::proofs::Spots::coord_fits, crate::proofs::Spots::spot_within, crate::proofs::Spots::spot_up, geometry::proofs::Neighbour::fwd_below))]
     pub fn up(&mut self, mu: usize)
         requires { mu < 4 }
         ensures field { self.new.strides ≡ self.old.strides }
@@ -70,6 +71,7 @@ impl Position {
     }
 
     // To the site before along an axis. Not one with `up` by a flag: both bodies would stand in it.
+    #[tactic(auto, using(crate::proofs::Spots::coord, crate::proofs::Spots::coord_fits, crate::proofs::Spots::spot_down, geometry::proofs::Neighbour::bwd_below))]
     pub fn down(&mut self, mu: usize)
         requires { mu < 4 }
         ensures field { self.new.strides ≡ self.old.strides }
