@@ -13,7 +13,8 @@ use steps::{Position, Strides};
 
 impl Su3Lattice<'_> {
     // The links around a plaquette at n in the plane of mu and nu, where f and g are the other two corners
-    // beside n.
+    // beside n. No type of such a plane: `planes_sum` has the corners of all planes at once, a plaquette by itself two
+    // that it works out, so that the type would be made only to be taken apart here.
     fn square(&self, n: usize, mu: usize, nu: usize, f: usize, g: usize) -> Square<'_>
         requires plane { (n < volume self.now.extents.d) × (mu < 4) × (nu < 4) }
         requires sides { (f < volume self.now.extents.d) × (g < volume self.now.extents.d) }

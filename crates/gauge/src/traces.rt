@@ -62,6 +62,17 @@ fn first_two(a: Lent, b: Lent, c: Lent, e: Lent) -> f64
 }
 
 impl Square<'_> {
+    // The matrix at one of its places.
+    fn at(&self, place: usize) -> Lent<'_>
+        requires { place + 18 ≤ length self.now.links.now }
+        ensures { (result.links.now ≡ self.now.links.now) × (result.place ≡ place) }
+    {
+        Lent {
+            links: self.links,
+            place,
+        }
+    }
+
     pub fn product(&self) -> Su3
         ensures { let l = self.now.links.now in result ≡ mul_dag_of (mul_of (matrix_at l self.now.a) (matrix_at l self.now.b)) (mul_of (matrix_at l self.now.c) (matrix_at l self.now.e)) }
     {
@@ -73,23 +84,8 @@ impl Square<'_> {
     pub fn trace(&self) -> f64
         ensures { let l = self.now.links.now in result ≡ re_tr (mul_dag_of (mul_of (matrix_at l self.now.a) (matrix_at l self.now.b)) (mul_of (matrix_at l self.now.c) (matrix_at l self.now.e))) }
     {
-        let links = self.links;
-        let a = Lent {
-            links,
-            place: self.a,
-        };
-        let b = Lent {
-            links,
-            place: self.b,
-        };
-        let c = Lent {
-            links,
-            place: self.c,
-        };
-        let e = Lent {
-            links,
-            place: self.e,
-        };
+        let (a, b) = (self.at(self.a), self.at(self.b));
+        let (c, e) = (self.at(self.c), self.at(self.e));
         first_two(a, b, c, e) + diagonal(a, b, c, e, 2)
     }
 }

@@ -1,8 +1,11 @@
 -- Steps from a spot with its coordinates carried along, and the spot with the next number.
-use Prim.Native.Nat.{ℕ, ◌+◌, ◌-◌, ◌%◌, ◌<◌, ◌≤◌}
-use mathlib.Core.Bool.{cond}
-use lib.Dec.{ltb}
-use mathlib.Core.List.{List, [], ◌∷◌}
+use Prim.Native.Nat.{ℕ, zero, suc, ◌+◌, ◌-◌, ◌%◌, ◌<◌, ◌≤◌}
+use mathlib.Core.List.{List, [], ◌∷◌, ◌++◌}
+use native.Mathlib.Numerals.{add-one}
+use borrow.Author.Tests.{lt-ltb, le-ltb}
+use Rattle.std.proofs.Common.{replicate, drop}
+use Rattle.std.proofs.lemmas.List.{length-replicate}
+use lib.Seq.{drop-cons, get_or-append_seam, set-append_seam}
 use mathlib.Core.Path.{◌≡◌, refl, ap, ap₂, sym, ◌∙◌}
 use native.Mathlib.Decide.{dec_lt}
 use native.Mathlib.Nat.{mod-eq_of_lt, mod_self, div-eq_of_lt, mul-mod_right, mul-div_cancel_left}
@@ -47,21 +50,61 @@ module _ (d : List ℕ) (shape : Shape d) (p : Spot) (spot : p ≡ spot_of d p.s
 
 -- ## the next number
 
--- by cases, as the code has it
-abbrev next_by : (d c : List ℕ) → List ℕ
-next_by d c =
-    let t = get_or c 0 0 in
-    let x = get_or c 1 0 in
-    let y = get_or c 2 0 in
-    let z = get_or c 3 0 in
-    cond (ltb (t + 1) (get_or d 0 0)) ((t + 1) ∷ x ∷ y ∷ z ∷ []) (0 ∷ cond (ltb (x + 1) (get_or d 1 0)) ((x + 1) ∷ y ∷ z ∷ []) (0 ∷ cond (ltb (y + 1) (get_or d 2 0)) ((y + 1) ∷ z ∷ []) (0 ∷ cond (ltb (z + 1) (get_or d 3 0)) ((z + 1) ∷ []) (0 ∷ []))))
+-- the coordinates of which n could not go on, and begin again
+unfoldable pub begun : List ℕ → ℕ → List ℕ
+begun c n = replicate n 0 ++ drop n c
 
-next_four : (a b c e t x y z : ℕ) → next_coords (a ∷ b ∷ c ∷ e ∷ []) (t ∷ x ∷ y ∷ z ∷ []) ≡ next_by (a ∷ b ∷ c ∷ e ∷ []) (t ∷ x ∷ y ∷ z ∷ [])
-unfolding next_coords
-next_four a b c e t x y z = refl
+zero_after : (n : ℕ) (l : List ℕ) → replicate n 0 ++ 0 ∷ l ≡ replicate (suc n) 0 ++ l
+zero_after zero l = refl
+zero_after (suc n) l = ap (λ (m : List ℕ). 0 ∷ m) (zero_after n l)
 
-pub next_is : (d c : List ℕ) → Shape d → Within d c → next_coords d c ≡ next_by d c
-next_is d c s w = ap₂ next_coords (four_are d s.four) (four_are c (rw w.len s.four)) ∙ next_four _ _ _ _ _ _ _ _
+-- a loop over the axes that is at the n-th, from the coordinates c to l
+pub record After (d c l : List ℕ) (n : ℕ) : Type 0 where
+  pub list : l ≡ begun c n
+  pub next : next_coords d c ≡ replicate n 0 ++ next_coords (drop n d) (drop n c)
+
+module _ (d c : List ℕ) (shape : Shape d) (within : Within d c) where
+  four : length c ≡ 4
+  four = rw within.len shape.four
+
+  pub after_none : After d c c 0
+  unfolding begun
+  after_none = record { list = refl; next = refl }
+
+  module _ (n : ℕ) (axis : n < 4) {l : List ℕ} (i : After d c l n) where
+    parts : l ≡ replicate n 0 ++ get_or c n 0 ∷ drop (suc n) c
+    unfolding begun
+    parts = i.list ∙ rw (drop-cons c n 0 (omega (arith, four)))
+
+    pub here : get_or l n 0 ≡ get_or c n 0
+    here = rw parts (rw length-replicate at (get_or-append_seam (replicate n 0) (get_or c n 0) (drop (suc n) c) 0))
+
+    pub small : (get_or l n 0 < get_or d n 0) × (get_or d n 0 ≤ 16)
+    small = (rw here (within.each n (omega (arith, shape.four))), (shape.each n axis).high)
+
+    stored : (x : ℕ) → set l n x ≡ replicate n 0 ++ x ∷ drop (suc n) c
+    stored x = rw parts (rw length-replicate at (set-append_seam (replicate n 0) (get_or c n 0) (drop (suc n) c) x))
+
+    next_here : next_coords d c ≡ replicate n 0 ++ next_coords (get_or d n 0 ∷ drop (suc n) d) (get_or c n 0 ∷ drop (suc n) c)
+    next_here = i.next ∙ rw (drop-cons d n 0 (omega (arith, shape.four)), drop-cons c n 0 (omega (arith, four)))
+
+    pub after_next : get_or d n 0 ≤ get_or l n 0 + 1 → After d c (set l n 0) (n + 1)
+    unfolding begun next_coords
+    after_next h = record {
+      list = rw (add-one n) (stored 0 ∙ zero_after n _);
+      next = rw (add-one n) (next_here ∙ rw (le-ltb _ _ (rw here at h)) (zero_after n _));
+    }
+
+    pub goes_on : get_or l n 0 + 1 < get_or d n 0 → set l n (get_or l n 0 + 1) ≡ next_coords d c
+    unfolding next_coords
+    goes_on h = rw (next_here, lt-ltb _ _ (rw here at h)) (stored _ ∙ rw here)
+
+  none_left : (m : List ℕ) → length m ≡ 4 → drop 4 m ≡ []
+  none_left m h = rw (four_are m h)
+
+  pub after_all : {l : List ℕ} {n : ℕ} → After d c l n → n ≡ 4 → l ≡ next_coords d c
+  unfolding begun next_coords
+  after_all i e = rw e at i.list ∙ sym (rw e at i.next ∙ rw (none_left d shape.four, none_left c four))
 
 -- past the last site the coordinates begin again
 coords_around : (d : List ℕ) → 0 < volume d → coords_of d (volume d) ≡ coords_of d 0

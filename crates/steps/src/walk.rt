@@ -7,27 +7,21 @@ ghost use Rattle.geometry.specs.Steps.{fwd_of, bwd_of, neighbours_of};
 use crate::{Position, Strides};
 use geometry::{Extents, Neighbours, Spot, wrap};
 
-// The coordinates of the site with the next number, from a site's. No loop over the axes: it would leave at
-// the first that can go on.
-#[tactic(auto, using(crate::proofs::Spots::next_is))]
-fn next_coords(extents: Extents, c: [usize; 4]) -> [usize; 4]
+// The coordinates of the site with the next number, from a site's: the first that can go on does, those before it
+// begin again.
+#[tactic(auto, using(crate::proofs::Spots::goes_on))]
+fn next_coords(extents: Extents, mut c: [usize; 4]) -> [usize; 4]
     requires { Within extents.d c }
     ensures { result ≡ next_coords extents.d c }
 {
-    let d = extents.d;
-    if c[0] + 1 < d[0] {
-        return [c[0] + 1, c[1], c[2], c[3]];
+    for mu in 0..4 {
+        if c[mu] + 1 < extents.d[mu] {
+            c[mu] += 1;
+            return c;
+        }
+        c[mu] = 0;
     }
-    if c[1] + 1 < d[1] {
-        return [0, c[1] + 1, c[2], c[3]];
-    }
-    if c[2] + 1 < d[2] {
-        return [0, 0, c[2] + 1, c[3]];
-    }
-    if c[3] + 1 < d[3] {
-        return [0, 0, 0, c[3] + 1];
-    }
-    [0, 0, 0, 0]
+    c
 }
 
 impl Position {
