@@ -89,14 +89,9 @@ pub fn is_finite(x: f64) -> bool
     x.is_finite()
 }
 
-// The same of every number of a list. Not by `all`: with no early exit the loop takes several numbers a turn.
-#[tactic(auto, unfolding(folds::specs::Folds::all_below, crate::specs::Finite::finite_numbers))]
+// The same of every number of a list. By a fold and not by `all`: with no early exit several numbers are tested a turn.
 pub fn all_finite(l: &[f64]) -> bool
     ensures { result ≡ finite_numbers l.now }
 {
-    let mut all = true;
-    for x in l {
-        all &= is_finite(*x);
-    }
-    all
+    l.iter().fold(true, |all, x| all & is_finite(*x))
 }
