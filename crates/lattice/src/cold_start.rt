@@ -30,9 +30,7 @@ pub fn cold(
 ) -> Result<Plan, Refusal>
     ensures { ColdCall extents coupling seed links.old result links.new }
 {
-    let fitting = checks::extents(extents)?;
-    checks::coupling(coupling)?;
-    checks::lattice(fitting, links)?;
+    let fitting = checks::coupled_field(extents, coupling, links)?.extents;
     set_identities(links, fitting);
     Ok(Plan {
         extents,
