@@ -1,9 +1,9 @@
-#![tactic(auto, unfolding(rows::specs::Refusals::first_refusal, rows::specs::Refusals::answered, crate::specs::Situations::bad_number, crate::specs::Situations::bad_pair, crate::specs::Situations::bad_matrix))]
+#![tactic(auto, unfolding(rows::specs::Refusals::first_refusal, rows::specs::Refusals::answered, crate::specs::Situations::bad_number, crate::specs::Situations::bad_pair, crate::specs::Situations::bad_matrix, crate::specs::Situations::bad_six))]
 
 ghost use Rattle.std.specs.Prelude.{◌≡◌, [], ◌∷◌, not, Bool};
 ghost use Rattle.rows.specs.Refusals.{first_refusal, answered};
 ghost use Rattle.rows.specs.declared.Refusal.{Refusal};
-ghost use Rattle.field_checks.specs.Situations.{bad_number, bad_pair, bad_matrix};
+ghost use Rattle.field_checks.specs.Situations.{bad_number, bad_pair, bad_matrix, bad_six};
 
 use complex::C64;
 use mat::Su3;
@@ -38,6 +38,14 @@ impl Numeric for Su3 {
 
     fn is_finite(self) -> bool {
         Su3::is_finite(self)
+    }
+}
+
+impl Numeric for [Su3; 6] {
+    ghost bad = { bad_six };
+
+    fn is_finite(self) -> bool {
+        self.iter().all(|u| u.is_finite())
     }
 }
 
