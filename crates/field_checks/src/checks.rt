@@ -8,7 +8,7 @@ ghost use Rattle.rows.specs.declared.Refusal.{Refusal};
 ghost use Rattle.field_checks.specs.Refusals.{field_rows, plan_rows};
 ghost use Rattle.field_checks.specs.Situations.{bad_extents, bad_coupling, bad_links, bad_site, bad_coords, bad_direction, bad_plane, bad_room};
 
-pub use crate::finite::finite;
+pub use crate::finite::{all_finite, finite};
 use gauge::Su3Lattice;
 use geometry::Extents;
 use rows::Refusal;

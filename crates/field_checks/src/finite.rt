@@ -1,6 +1,7 @@
-#![tactic(auto, unfolding(rows::specs::Refusals::first_refusal, rows::specs::Refusals::answered, crate::specs::Situations::bad_number, crate::specs::Situations::bad_pair, crate::specs::Situations::bad_matrix, crate::specs::Situations::bad_six))]
+#![tactic(auto, unfolding(rows::specs::Refusals::first_refusal, rows::specs::Refusals::answered, rows::specs::Finite::bad_numbers, crate::specs::Situations::bad_number, crate::specs::Situations::bad_pair, crate::specs::Situations::bad_matrix, crate::specs::Situations::bad_six))]
 
 ghost use Rattle.std.specs.Prelude.{◌≡◌, [], ◌∷◌, not, Bool};
+ghost use Rattle.rows.specs.Finite.{bad_numbers};
 ghost use Rattle.rows.specs.Refusals.{first_refusal, answered};
 ghost use Rattle.rows.specs.declared.Refusal.{Refusal};
 ghost use Rattle.field_checks.specs.Situations.{bad_number, bad_pair, bad_matrix, bad_six};
@@ -56,6 +57,17 @@ pub fn finite<T: Numeric>(x: T) -> Result<T, Refusal>
 {
     if x.is_finite() {
         Ok(x)
+    } else {
+        Err(Refusal::NotFinite)
+    }
+}
+
+// The same of a list.
+pub fn all_finite(l: &[f64]) -> Result<(), Refusal>
+    ensures { result ≡ answered (first_refusal ((bad_numbers l.now, Refusal.NotFinite) ∷ [])) tt }
+{
+    if rows::all_finite(l) {
+        Ok(())
     } else {
         Err(Refusal::NotFinite)
     }
