@@ -18,9 +18,8 @@ pub fn baryon_loop(
 ) -> Result<f64, Refusal>
     ensures { result ≡ baryon_call extents site offsets t_len links.now }
 {
-    let extents = checks::extents(extents)?;
-    let lattice = checks::lattice(extents, links)?;
-    checks::site(extents, site)?;
+    let lattice = checks::field(extents, links)?;
+    checks::site(lattice.extents, site)?;
     let quarks = stairs::checks::quarks(offsets)?;
     stairs::checks::time(t_len)?;
     let paths = stairs::staircases(quarks);

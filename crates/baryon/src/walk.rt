@@ -39,9 +39,8 @@ pub fn path<S: Copy + Into<Step>>(
 ) -> Result<(Su3, usize), Refusal>
     ensures { (read : S → Step) → Stands S.converts read → result ≡ path_call extents site links.now (map read steps.now) }
 {
-    let extents = checks::extents(extents)?;
-    let lattice = checks::lattice(extents, links)?;
-    checks::site(extents, site)?;
+    let lattice = checks::field(extents, links)?;
+    checks::site(lattice.extents, site)?;
     let steps = steps_of(steps)?;
     let mut walker = Walker::new(lattice, site);
     let u = walker.path(&steps);
@@ -57,9 +56,8 @@ pub fn time_line(
 ) -> Result<(Su3, usize), Refusal>
     ensures { result ≡ line_call extents site t_len links.now }
 {
-    let extents = checks::extents(extents)?;
-    let lattice = checks::lattice(extents, links)?;
-    checks::site(extents, site)?;
+    let lattice = checks::field(extents, links)?;
+    checks::site(lattice.extents, site)?;
     stairs::checks::time(t_len)?;
     let mut walker = Walker::new(lattice, site);
     let u = walker.time_line(t_len);

@@ -8,7 +8,7 @@ use Rattle.complex.specs.declared.C64.{C64}
 use Rattle.mat.specs.declared.Su3.{Su3}
 use Rattle.complex.specs.Rounded.{fzero}
 use Rattle.complex.specs.Complex.{finite_entry}
-use Rattle.mat.specs.Matrix.{finite_matrix}
+use Rattle.mat.specs.Matrix.{finite_matrix, nth_matrix}
 use Rattle.geometry.specs.Radix.{volume}
 use Rattle.geometry.specs.Shape.{fits_of}
 
@@ -47,6 +47,12 @@ bad_pair z = not (finite_entry z)
 
 unfoldable pub bad_matrix : Su3 → Bool
 bad_matrix u = not (finite_matrix u)
+
+unfoldable pub finite_six : List Su3 → Bool
+finite_six f = all_below (λ p. finite_matrix (nth_matrix f p)) 6
+
+unfoldable pub bad_six : List Su3 → Bool
+bad_six f = not (finite_six f)
 
 -- 12: room for fewer unsound links than there are links
 unfoldable pub bad_room : List ℕ → ℕ → Bool

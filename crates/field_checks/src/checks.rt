@@ -5,9 +5,10 @@ ghost use Rattle.std.specs.Prelude.{◌≡◌, ◌*◌, ◌<◌, ◌≤◌, [], 
 ghost use Rattle.rows.specs.Refusals.{Checked};
 ghost use Rattle.geometry.specs.Radix.{volume, Within};
 ghost use Rattle.rows.specs.declared.Refusal.{Refusal};
+ghost use Rattle.field_checks.specs.Refusals.{field_rows, plan_rows};
 ghost use Rattle.field_checks.specs.Situations.{bad_extents, bad_coupling, bad_links, bad_site, bad_coords, bad_direction, bad_plane, bad_room};
 
-pub use crate::finite::finite;
+pub use crate::finite::{all_finite, finite};
 use gauge::Su3Lattice;
 use geometry::Extents;
 use rows::Refusal;
@@ -41,11 +42,24 @@ pub fn length(len: usize, wanted: usize) -> Result<(), Refusal>
 pub fn lattice(extents: Extents, links: &[f64]) -> Result<Su3Lattice<'_>, Refusal>
     ensures { Checked ((bad_links extents.d (length links.now), Refusal.Length) ∷ []) (λ l. (l.extents.d ≡ extents.d) × (l.links.now ≡ links.now)) result }
 {
-    if links.len() == 72 * extents.sites() {
-        Ok(Su3Lattice { extents, links })
-    } else {
-        Err(Refusal::Length)
-    }
+    length(links.len(), 72 * extents.sites())?;
+    Ok(Su3Lattice { extents, links })
+}
+
+// A field: its extents, and the length of its links.
+pub fn field(d: [usize; 4], links: &[f64]) -> Result<Su3Lattice<'_>, Refusal>
+    ensures { Checked (field_rows d (length links.now)) (λ l. (l.extents.d ≡ d) × (l.links.now ≡ links.now)) result }
+{
+    lattice(extents(d)?, links)
+}
+
+// The same, and the coupling between the two.
+pub fn coupled_field(d: [usize; 4], c: f64, links: &[f64]) -> Result<Su3Lattice<'_>, Refusal>
+    ensures { Checked (plan_rows d c (length links.now)) (λ l. (l.extents.d ≡ d) × (l.links.now ≡ links.now)) result }
+{
+    let extents = extents(d)?;
+    coupling(c)?;
+    lattice(extents, links)
 }
 
 // No type of a site comes of it: `steps::Position`, `strength::Site` and `paths::Walker` are types of a site with

@@ -9,12 +9,12 @@ use Rattle.geometry.specs.Radix.{volume}
 use Rattle.links.specs.Field.{Field}
 use Rattle.gauge.specs.Field.{link_of, list_of}
 use Rattle.field_checks.specs.Refusals.{plane_rows, field_site_rows}
-use Rattle.field_checks.specs.Situations.{bad_matrix}
+use Rattle.field_checks.specs.Situations.{bad_matrix, bad_six}
 use Rattle.strength.specs.declared.Density.{Density}
 use Rattle.strength.specs.Clover.{clover_of, strengths_of}
 use Rattle.strength.specs.Densities.{density_of}
 use Rattle.stout.specs.Stout.{stout_of}
-use Rattle.fields.specs.Situations.{bad_six, stout_rows, smear_rows, density_rows}
+use Rattle.fields.specs.Situations.{stout_rows, smear_rows, density_rows}
 
 -- ## Matrices
 

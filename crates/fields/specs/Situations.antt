@@ -1,10 +1,7 @@
 -- The situations that these calls add to those of `field_checks`, and the rows of those calls whose rows it does not have, in the order in which they are tried;
 -- a number that isn't finite comes after them. The rows of `clover_leaves` and `field_strength_at` are its `plane_rows` and `field_site_rows`.
 use Rattle.std.specs.Prelude.{ℕ, Bool, false, not, List, [], ◌∷◌, ltb, eqb}
-use Rattle.folds.specs.Folds.{all_below}
 use Rattle.rows.specs.declared.Refusal.{Refusal}
-use Rattle.mat.specs.declared.Su3.{Su3}
-use Rattle.mat.specs.Matrix.{finite_matrix, nth_matrix}
 use Rattle.geometry.specs.Radix.{volume}
 use Rattle.strength.specs.declared.Density.{Density}
 use Rattle.field_checks.specs.Refusals.{RowList}
@@ -21,13 +18,6 @@ unfoldable pub bad_axis : Density → Bool
 bad_axis Density.Action = false
 bad_axis Density.Charge = false
 bad_axis (Density.Electric axis) = ltb 2 axis
-
--- 10: a number of six matrices isn't finite
-unfoldable pub finite_six : List Su3 → Bool
-finite_six f = all_below (λ p. finite_matrix (nth_matrix f p)) 6
-
-unfoldable pub bad_six : List Su3 → Bool
-bad_six f = not (finite_six f)
 
 -- ## Rows: d are extents, len the number of link numbers
 

@@ -4,10 +4,11 @@
 
 ghost use Rattle.std.specs.Prelude.{◌≡◌, ◌*◌, ◌<◌, ◌^◌, [], ◌∷◌, ℕ, List, length};
 ghost use Rattle.std.specs.Float.Ieee.{Float};
-ghost use Rattle.rows.specs.Finite.{finite_numbers, bad_numbers};
+ghost use Rattle.rows.specs.Finite.{bad_numbers};
 ghost use Rattle.rows.specs.Refusals.{first_refusal, answered};
 ghost use Rattle.fields.specs.Places.{placed};
 
+use field_checks::checks;
 use rows::Refusal;
 
 // What a list is filled with: N numbers at each place.
@@ -24,30 +25,16 @@ pub trait Filling<const N: usize> {
         ensures { result ≡ numbers self.now k };
 }
 
-// Whether all numbers are finite. There is no list of them: those of a place are worked out from its number, here and
-// in `store`.
-fn is_finite<const N: usize, W: Filling<N>>(what: &W) -> bool
-    requires { N < 2 ^ 60 }
-    ensures { result ≡ finite_numbers (placed (W.numbers what.now) (W.places what.now)) }
-{
-    for k in 0..what.places() {
-        if !rows::all_finite(&what.numbers(k)) {
-            return false;
-        }
-    }
-    true
-}
-
-// Row 10 for what is worked out.
+// Row 10 for what is worked out. There is no list of the numbers: those of a place are worked out from its number,
+// here and in `store`.
 pub(crate) fn check<const N: usize, W: Filling<N>>(what: &W) -> Result<(), Refusal>
     requires { N < 2 ^ 60 }
     ensures { result ≡ answered (first_refusal ((bad_numbers (placed (W.numbers what.now) (W.places what.now)), Refusal.NotFinite) ∷ [])) tt }
 {
-    if is_finite(what) {
-        Ok(())
-    } else {
-        Err(Refusal::NotFinite)
+    for k in 0..what.places() {
+        checks::all_finite(&what.numbers(k))?;
     }
+    Ok(())
 }
 
 pub(crate) fn store<const N: usize, W: Filling<N>>(what: &W, list: &mut [f64])

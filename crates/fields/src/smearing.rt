@@ -25,9 +25,8 @@ pub fn stout_link(
 ) -> Result<Su3, Refusal>
     ensures { result ≡ stout_call extents site mu rho links.now }
 {
-    let extents = checks::extents(extents)?;
-    let lattice = checks::lattice(extents, links)?;
-    checks::site(extents, site)?;
+    let lattice = checks::field(extents, links)?;
+    checks::site(lattice.extents, site)?;
     checks::direction(mu)?;
     checks::finite(stout::stout_link(lattice, site, mu, rho, TERMS))
 }
@@ -63,9 +62,8 @@ pub fn stout_step(
 ) -> Result<(), Refusal>
     ensures { SmearCall extents rho links.now smeared.old result smeared.new }
 {
-    let extents = checks::extents(extents)?;
-    let lattice = checks::lattice(extents, links)?;
-    checks::lattice(extents, smeared)?;
+    let lattice = checks::field(extents, links)?;
+    checks::lattice(lattice.extents, smeared)?;
     let links = Smearing { lattice, rho };
     places::check(&links)?;
     places::store(&links, smeared);

@@ -12,8 +12,7 @@ pub fn link_check(extents: [usize; 4], links: &[f64], found: &mut [u32]) -> Resu
     ensures call { CheckCall extents links.now found.old result found.new }
     ensures few { IfOk result (λ n. n ≤ 262144) }
 {
-    let extents = checks::extents(extents)?;
-    let lattice = checks::lattice(extents, links)?;
-    checks::room(extents, found.len())?;
+    let lattice = checks::field(extents, links)?;
+    checks::room(lattice.extents, found.len())?;
     Ok(sound::list_unsound(&lattice, found))
 }

@@ -11,7 +11,8 @@ use mat::Su3;
 use rows::Refusal;
 
 // Sets every link of a list to the identity. By number. Tried: `chunks_exact_mut`, after which a proof knows the list's
-// length alone.
+// length alone. There is no type of a list that is written: each of its methods would promise that its extents and its
+// loan stay, two clauses for this one `requires`.
 fn set_identities(links: &mut [f64], extents: Extents)
     requires { length links.old ≡ 72 * volume extents.d }
     ensures { links.new ≡ cold_links extents.d }
@@ -30,9 +31,7 @@ pub fn cold(
 ) -> Result<Plan, Refusal>
     ensures { ColdCall extents coupling seed links.old result links.new }
 {
-    let fitting = checks::extents(extents)?;
-    checks::coupling(coupling)?;
-    checks::lattice(fitting, links)?;
+    let fitting = checks::coupled_field(extents, coupling, links)?.extents;
     set_identities(links, fitting);
     Ok(Plan {
         extents,

@@ -19,9 +19,8 @@ pub fn plaquette(
 ) -> Result<Su3, Refusal>
     ensures { result ≡ plaquette_call extents site mu nu links.now }
 {
-    let extents = checks::extents(extents)?;
-    let lattice = checks::lattice(extents, links)?;
-    checks::site(extents, site)?;
+    let lattice = checks::field(extents, links)?;
+    checks::site(lattice.extents, site)?;
     checks::plane(mu, nu)?;
     checks::finite(lattice.plaquette(site, mu, nu))
 }
@@ -30,10 +29,8 @@ pub fn plaquette(
 pub fn staple(plan: Plan, site: usize, mu: usize, links: &[f64]) -> Result<Su3, Refusal>
     ensures { result ≡ staple_call plan site mu links.now }
 {
-    let extents = checks::extents(plan.extents)?;
-    checks::coupling(plan.coupling)?;
-    let lattice = checks::lattice(extents, links)?;
-    checks::site(extents, site)?;
+    let lattice = checks::coupled_field(plan.extents, plan.coupling, links)?;
+    checks::site(lattice.extents, site)?;
     checks::direction(mu)?;
     checks::finite(lattice.staple(site, mu))
 }
@@ -42,8 +39,7 @@ pub fn staple(plan: Plan, site: usize, mu: usize, links: &[f64]) -> Result<Su3, 
 pub fn average_plaquette(extents: [usize; 4], links: &[f64]) -> Result<f64, Refusal>
     ensures { result ≡ average_call extents links.now }
 {
-    let extents = checks::extents(extents)?;
-    let lattice = checks::lattice(extents, links)?;
+    let lattice = checks::field(extents, links)?;
     checks::finite(lattice.average_plaquette())
 }
 
@@ -51,9 +47,7 @@ pub fn average_plaquette(extents: [usize; 4], links: &[f64]) -> Result<f64, Refu
 pub fn action(plan: Plan, links: &[f64]) -> Result<f64, Refusal>
     ensures { result ≡ action_call plan links.now }
 {
-    let extents = checks::extents(plan.extents)?;
-    checks::coupling(plan.coupling)?;
-    let lattice = checks::lattice(extents, links)?;
+    let lattice = checks::coupled_field(plan.extents, plan.coupling, links)?;
     checks::finite(lattice.action(plan.coupling))
 }
 
@@ -61,7 +55,6 @@ pub fn action(plan: Plan, links: &[f64]) -> Result<f64, Refusal>
 pub fn polyakov_loop(extents: [usize; 4], links: &[f64]) -> Result<C64, Refusal>
     ensures { result ≡ polyakov_call extents links.now }
 {
-    let extents = checks::extents(extents)?;
-    let lattice = checks::lattice(extents, links)?;
+    let lattice = checks::field(extents, links)?;
     checks::finite(lattice.polyakov_loop())
 }

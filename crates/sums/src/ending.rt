@@ -4,6 +4,7 @@ ghost use Rattle.std.specs.Prelude.{◌≡◌, ◌+◌, min, length};
 ghost use Rattle.rows.specs.Refusals.{answered};
 ghost use Rattle.sums.specs.Ending.{sums_refusal, SumsStored};
 
+use field_checks::checks;
 use rows::Refusal;
 
 // So many more samples, at most 2^64 − 1.
@@ -24,11 +25,10 @@ pub struct Sums {
 fn finite_sums(grid: &[f64], sums: Sums) -> Result<(), Refusal>
     ensures { result ≡ answered (sums_refusal grid.now sums.w sums.s) tt }
 {
-    if rows::all_finite(grid) && rows::all_finite(&sums.s) && rows::is_finite(sums.w) {
-        Ok(())
-    } else {
-        Err(Refusal::NotFinite)
-    }
+    checks::all_finite(grid)?;
+    checks::all_finite(&sums.s)?;
+    checks::finite(sums.w)?;
+    Ok(())
 }
 
 // Stores a grid that stands in the second half of the scratch, where it and the sums are finite. The

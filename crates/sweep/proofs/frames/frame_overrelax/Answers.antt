@@ -16,7 +16,7 @@ returns c =
     let none : frame_refusal job c.args.links.now ≡ None = search rules in
     let shape = rw made.extents at set.extents.fits in
     let two = rw made.parity at set.two in
-    let least : c.min-count.result ≡ min c.args.size (half_of job.extents - job.visited) = rw (c.sites.ensures, c.in_ok-extents.ensures.made) at c.min-count.ensures in
+    let least : c.min-count.result ≡ min c.args.size (half_of job.extents - job.visited) = rw (c.sites.ensures, c.in_ok-extents.ensures.made.0) at c.min-count.ensures in
     let sites = frame_segment job shape two c.args.size least in
     let many = frame_count job shape two c.args.size least in
     rw (after.links, after.stuck, made.extents, made.direction, made.parity, sites, many) (frame_accepted _ _ _ none)
