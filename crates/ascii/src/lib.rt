@@ -1,5 +1,5 @@
-// Lines of a name, a space and a number, appended to a text of bytes that has a fixed room. Not by `write!`: what
-// that writes is promised of a `String` alone, which needs a heap.
+// Lines of a name, a space and a number, appended to a text of bytes that has a fixed room. Not by `write!` to an
+// `ArrayString`: what is written is promised of an `Ok`, and no promise says that a write with room is one.
 #![tactic(auto)]
 
 ghost use Rattle.std.specs.Prelude.{◌+◌, ◌≤◌, true, ◌≡◌, ◌++◌, length};

@@ -3,17 +3,19 @@
 #![tactic(auto)]
 
 ghost use Rattle.std.specs.Prelude.{◌≡◌};
-ghost use Rattle.bounds.specs.Magnitude.{all_within_two};
+ghost use Rattle.bounds.specs.Magnitude.{all_within_two, within_two};
 
-// Whether every number is from -2 to 2. There is no early exit, so that the loop takes several
-// numbers a turn.
-#[tactic(auto, unfolding(folds::specs::Folds::all_below, crate::specs::Magnitude::within_two))]
+// Whether a number is from -2 to 2.
+#[tactic(auto, unfolding(crate::specs::Magnitude::within_two))]
+fn within_two(x: f64) -> bool
+    ensures { result ≡ within_two x }
+{
+    (x >= -2.0) & (x <= 2.0)
+}
+
+// By a fold and not by `all`: with no early exit several numbers are taken a turn.
 pub fn all_within_two(numbers: &[f64]) -> bool
     ensures { result ≡ all_within_two numbers.now }
 {
-    let mut all = true;
-    for x in numbers {
-        all &= (*x >= -2.0) & (*x <= 2.0);
-    }
-    all
+    numbers.iter().fold(true, |all, x| all & within_two(*x))
 }

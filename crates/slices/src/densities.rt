@@ -7,7 +7,7 @@ use geometry::Extents;
 #[derive(Clone, Copy)]
 pub struct Densities<'a> {
     pub extents: Extents,
-    // Not worked out from the list: that would be a division.
+    // The host's count. No code reads it: the contracts do, and from the list it would be a quotient in each.
     pub count: usize,
     pub numbers: &'a [f64],
     ghost full: { length numbers.now ≡ count * volume extents.d },

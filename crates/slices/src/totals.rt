@@ -14,15 +14,16 @@ pub fn total(l: &[f64]) -> f64
     l.iter().fold(0.0, |sum, x| sum + *x)
 }
 
-// The densities' sums over all sites, each added to the sum so far. By number: there is no list of densities.
-#[tactic(auto, using(crate::proofs::SumsSoFar::density_total, crate::proofs::SumsSoFar::sums_next, crate::proofs::SumsSoFar::sums_are), unfolding(folds::specs::Folds::fill))]
+// The densities' sums over all sites, each added to the sum so far.
+#[tactic(auto, unfolding(folds::specs::Folds::fill))]
 pub fn density_sums(densities: &Densities, s: [f64; 4]) -> [f64; 4]
     requires { densities.now.count ≤ 4 }
     ensures { result ≡ sums_of densities.now.extents.d densities.now.numbers.now densities.now.count s }
 {
     let mut sums = s;
-    for k in 0..densities.count {
-        sums[k] += total(densities.density(k));
+    let sites = densities.extents.sites();
+    for (k, density) in densities.numbers.chunks_exact(sites).enumerate() {
+        sums[k] += total(density);
     }
     sums
 }

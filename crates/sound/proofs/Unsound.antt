@@ -13,7 +13,7 @@ use Rattle.std.proofs.Math.Bool.{and_assoc}
 use Rattle.std.proofs.lemmas.List.{get_or-drop, get_or-take}
 use lib.Ieee.{Float, nan, inf, fin, le, neg, of_bits}
 use lib.ListN.{length, get_or, take, drop, set, length-append, length-take, length-drop}
-use lib.Seq.{set_at, take_at, drop_at, drop-cons, append_snoc}
+use lib.Seq.{set_at, take_at, drop_at, drop-cons, drop-drop, append_snoc}
 use Rattle.folds.specs.Folds.{all_below}
 use Rattle.folds.proofs.Lists.{all_listed}
 use Rattle.complex.specs.Rounded.{fone}
@@ -21,7 +21,7 @@ use Rattle.mat.specs.Matrix.{ent}
 use Rattle.links.specs.Store.{cell_at, matrix_at}
 use Rattle.links.proofs.Laws.{entry_at}
 use Rattle.geometry.specs.Range.{range}
-use Rattle.links.specs.Field.{place_of}
+use Rattle.links.specs.Field.{place_of, field_of}
 use Rattle.sound.specs.Sound.{sound_number, sound_entry, sound_of, Listed}
 
 -- ## one number
@@ -113,7 +113,54 @@ module _ (test : ℕ → Bool) where
     later = rw w.list (drop_at (failing _) (drop c old) c (sym w.count));
   }
 
--- ## the link with a number
+-- ## eighteen numbers after eighteen
 
-pub link_at : (v k : ℕ) → place_of v (k / v) (k % v) ≡ 18 * k
-link_at v k = let e = mod-add-div k v in let f = mul_comm (k / v) v in omega (arith, e, f)
+unfoldable pub sound_at : ℕ → List Float → ℕ → Bool
+sound_at v l k = sound_of (field_of v l (k / v) (k % v))
+
+numbers_sound : (v : ℕ) (l : List Float) (k : ℕ) → 18 * k + 18 ≤ length l → list_all sound_number (take 18 (drop (18 * k) l)) ≡ sound_at v l k
+unfolding sound_at
+numbers_sound v l k h =
+    let e = mod-add-div k v in
+    let f = mul_comm (k / v) v in
+    let place : place_of v (k / v) (k % v) ≡ 18 * k = omega (arith, e, f) in
+    rw place (sound_numbers l (18 * k) h)
+
+-- the numbers that are left after k links of l, those of `old` being what was written over
+pub record Along (v : ℕ) (l : List Float) (old : List ℕ) (k : ℕ) (rest : List Float) (c : ℕ) (new : List ℕ) : Type 0 where
+  pub ahead : rest ≡ drop (18 * k) l
+  pub gone : 18 * k ≤ length l
+  pub few : c ≤ k
+  pub written : Written (sound_at v l) old k c new
+
+module _ (v : ℕ) (l : List Float) (old : List ℕ) where
+  pub along_none : Along v l old 0 l 0 old
+  along_none = record { ahead = refl; gone = omega arith; few = omega arith; written = written_none _ old }
+
+  module _ {k : ℕ} {rest : List Float} {c : ℕ} {new : List ℕ} (a : Along v l old k rest c new) where
+    pub along_done : length l ≡ 72 * v → length rest < 18 → (Listed (failing (sound_at v l) (4 * v)) old c new) × (c ≤ 4 * v)
+    along_done len short =
+        let all : k ≡ 4 * v = let g = ap length a.ahead ∙ length-drop (18 * k) l in omega (arith, g, a.gone) in
+        (written_done _ old c new all a.written, omega (arith, a.few))
+
+    module _ (x t : List Float) (cut : rest ≡ x ++ t) (eighteen : length x ≡ 18) where
+      here : x ≡ take 18 (drop (18 * k) l)
+      here = sym (rw (← a.ahead, cut) (take_at x t 18 eighteen))
+
+      left : t ≡ drop (18 * (k + 1)) l
+      left = let e : 18 * k + 18 ≡ 18 * (k + 1) = omega arith in sym (drop_at x t 18 eighteen) ∙ rw (← cut, a.ahead) (drop-drop 18 (18 * k) l ∙ ap (λ (i : ℕ). drop i l) e)
+
+      more : 18 * (k + 1) ≤ length l
+      more = let g = sym (ap length a.ahead ∙ length-drop (18 * k) l) ∙ ap length cut ∙ length-append x t in omega (arith, g, eighteen, a.gone)
+
+      checked : list_all sound_number x ≡ sound_at v l k
+      checked = rw here (numbers_sound v l k (omega (arith, more)))
+
+      pub along_room : length l ≡ 72 * v → c < 4 * v
+      along_room len = omega (arith, more, a.few)
+
+      pub along_sound : true ≡ list_all sound_number x → Along v l old (k + 1) t c new
+      along_sound ok = record { ahead = left; gone = more; few = omega (arith, a.few); written = written_skip _ old k c new a.written (sym (ok ∙ checked)) }
+
+      pub along_unsound : false ≡ list_all sound_number x → c < length old → Along v l old (k + 1) t (c + 1) (set new c k)
+      along_unsound bad room = record { ahead = left; gone = more; few = omega (arith, a.few); written = written_next _ old k c new a.written (sym (bad ∙ checked)) room }

@@ -9,7 +9,6 @@ ghost use Rattle.gauge.specs.Field.{link_of};
 ghost use Rattle.sound.specs.Sound.{sound_number, sound_of, unsound_links, Listed};
 
 use gauge::Su3Lattice;
-use links::Lent;
 
 // Whether a number is finite and from -1 to 1. No infinity and no NaN passes the comparisons.
 fn sound_number(x: f64) -> bool
@@ -24,28 +23,15 @@ fn all_sound(numbers: &[f64]) -> bool
     numbers.iter().all(|x| sound_number(*x))
 }
 
-// Whether a matrix is sound.
-#[tactic(auto, using(crate::proofs::Unsound::sound_numbers))]
-fn sound(u: Lent) -> bool
-    ensures { result ≡ sound_of (lent_of u.entry) }
-{
-    all_sound(u.numbers())
-}
-
-// Writes the numbers of the unsound links to the front of a list, and gives their count. Links and unsound ones are
-// counted, since there is no list of either to go along.
+// Writes the numbers of the unsound links to the front of a list, and gives their count.
 pub fn list_unsound(lattice: &Su3Lattice, found: &mut [u32]) -> usize
     requires { 4 * volume lattice.now.extents.d ≤ length found.old }
     ensures listed { Listed (unsound_links lattice.now.extents.d (link_of lattice.now.extents.d lattice.now.links.now)) found.old result found.new }
     ensures few { result ≤ 4 * volume lattice.now.extents.d }
 {
     let mut count = 0;
-    for k in 0..4 * lattice.extents.sites() {
-        let u = Lent {
-            links: lattice.links,
-            place: 18 * k,
-        };
-        if !sound(u) {
+    for (k, numbers) in lattice.links.chunks_exact(18).enumerate() {
+        if !all_sound(numbers) {
             found[count] = k as u32;
             count += 1;
         }

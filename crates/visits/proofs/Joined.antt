@@ -99,12 +99,12 @@ module _ (d : List ℕ) (shape : Shape d) (mu p : ℕ) (axis : mu < 4) (two : p 
     both : Pieces d p (segment d p from (k - from)) (n ∷ [])
     both = pieces d p from (k + 1 - from) (segment d p from (k - from)) (n ∷ []) grown
 
-    pub visits_next : list_of d (overrelaxed_field d mu (link_of d l) (n ∷ [])) ≡ list_of d (overrelaxed_field d mu (link_of d l₀) (segment d p from (k + 1 - from)))
-    visits_next = rw grown (visits_join d shape mu p axis l₀ l (segment d p from (k - from)) (n ∷ []) both after)
-
-    pub count_next : {s : ℕ} → s ≡ stuck_count d mu (link_of d l₀) (segment d p from (k - from))
-        → {b : Bool} → b ≡ is_stuck (update_of d (link_of d l) n mu) → s + cond b 1 0 ≡ stuck_count d mu (link_of d l₀) (segment d p from (k + 1 - from))
+    pub visit_next : {s : ℕ} → s ≡ stuck_count d mu (link_of d l₀) (segment d p from (k - from)) → {b : Bool} → b ≡ is_stuck (update_of d (link_of d l) n mu)
+        → (list_of d (overrelaxed_field d mu (link_of d l) (n ∷ [])) ≡ list_of d (overrelaxed_field d mu (link_of d l₀) (segment d p from (k + 1 - from))))
+        × (s + cond b 1 0 ≡ stuck_count d mu (link_of d l₀) (segment d p from (k + 1 - from)))
     unfolding stuck_among
-    count_next e f =
-        let all = count_join d shape mu p axis l₀ l (segment d p from (k - from)) (n ∷ []) both after in
-        rw (grown, ← all, e, f) (omega arith)
+    visit_next e f =
+        let all = count_join d shape mu p axis l₀ l (segment d p from (k - from)) (n ∷ []) both after in (
+          rw grown (visits_join d shape mu p axis l₀ l (segment d p from (k - from)) (n ∷ []) both after),
+          rw (grown, ← all, e, f) (omega arith),
+        )

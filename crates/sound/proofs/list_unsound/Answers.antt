@@ -1,33 +1,30 @@
-use Rattle.std.proofs.Common.{◌≡◌, ◌*◌, ◌<◌, length, sym, ◌∙◌, arith}
-use Rattle.geometry.specs.Radix.{volume}
+use Rattle.std.proofs.Common.{◌<◌, length, ◌∙◌, arith}
 use Rattle.sound.specs.Sound.{sound_link, unsound_links}
-use Rattle.sound.proofs.Unsound.{written_none, written_skip, written_next, written_done, link_at}
+use Rattle.sound.proofs.Unsound.{sound_at, along_none, along_room, along_sound, along_unsound, along_done}
 use Rattle.sound.proofs.list_unsound.Goals as goal
-use Rattle.sound.proofs.list_unsound.Goals.{then-not-sound, else-not-sound}
-use Rattle.sound.proofs.list_unsound.Invariants.{sound_at}
 
 pub loop-k-init : goal.loop-k-init
-loop-k-init c = (omega arith, written_none _ _)
+loop-k-init c =
+    rw (c.into_iter-k-iterator.ensures.into_iter_gives, c.enumerate-k-items.ensures.source, c.enumerate-k-items.ensures.count, c.chunks_exact.ensures.rest)
+    (c.chunks_exact.ensures.size, along_none _ _ _)
+
+pub loop-k-preserved-then-not-all_sound : goal.loop-k-preserved-then-not-all_sound
+loop-k-preserved-then-not-all_sound c =
+    let i = c.loop-k.invariant in
+    let s = c.in-Some.ensures.steps in
+    let few = along_room _ _ _ i.1 _ _ s.0.1.0 (s.0.1.1 ∙ i.0) c.args.lattice.now.holds in
+    let room : c.loop-k.count < length c.args.found.now = omega (arith, c.requires, few) in
+    (s.0.0 ∙ i.0, rw (s.1, s.2) (along_unsound _ _ _ i.1 _ _ s.0.1.0 (s.0.1.1 ∙ i.0) c.if-not-all_sound.ensures room))
 
 pub loop-k-preserved : goal.loop-k-preserved
-unfolding sound_at
 loop-k-preserved c =
-    let k = c.loop-k.k in
-    let count = c.loop-k.count in
-    let found = c.loop-k.found in
-    let old = c.args.found.now in
-    let lattice = c.args.lattice.now in
-    let v = volume lattice.extents.d in
     let i = c.loop-k.invariant in
-    let room : count < length old = omega (arith, c.requires, c.sites-k-end.ensures, c.loop-k-test.true, i.0) in
-    let checked : c.sound.result ≡ sound_at v lattice.links.now k = rw (link_at v k) c.sound.ensures in
-    elim c.if-not-sound.branch [
-      | then-not-sound w ↦ rw (w.count-is, w.found-is) (omega (arith, i.0), written_next _ old k count found i.1 (sym checked ∙ w.if-not-sound.true) room)
-      | else-not-sound w ↦ rw (w.count-is, w.found-is) (omega (arith, i.0), written_skip _ old k count found i.1 (sym checked ∙ w.if-not-sound.false))
-    ]
+    let s = c.in-Some.ensures.steps in
+    (s.0.0 ∙ i.0, rw s.2 (along_sound _ _ _ i.1 _ _ s.0.1.0 (s.0.1.1 ∙ i.0) c.if-not-all_sound.ensures))
 
 pub returns-clause-listed : goal.returns-clause-listed
 unfolding unsound_links sound_link sound_at
-returns-clause-listed c =
-    let all : c.loop-k.k ≡ 4 * volume c.args.lattice.now.extents.d = omega (arith, c.sites-k-end.ensures, c.loop-k.auto.k-end, c.loop-k-test.false) in
-    written_done _ _ _ _ all c.loop-k.invariant.1
+returns-clause-listed c = let i = c.loop-k.invariant in (along_done _ _ _ i.1 c.args.lattice.now.holds (rw i.0 at c.in-None.ensures.steps.0.1.0)).0
+
+pub returns-clause-few : goal.returns-clause-few
+returns-clause-few c = let i = c.loop-k.invariant in (along_done _ _ _ i.1 c.args.lattice.now.holds (rw i.0 at c.in-None.ensures.steps.0.1.0)).1

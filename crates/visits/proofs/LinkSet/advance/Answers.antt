@@ -1,6 +1,6 @@
 use Rattle.std.proofs.Common.{◌≡◌, ◌+◌, ◌-◌, ◌∙◌, cond, sym, refl, add-zero, arith}
 use Rattle.visits.specs.Visits.{stuck_among}
-use Rattle.visits.proofs.Joined.{visits_none, visits_next, count_next, few_stuck}
+use Rattle.visits.proofs.Joined.{visits_none, visit_next, few_stuck}
 use Rattle.visits.proofs.LinkSet.advance.Goals as goal
 use Rattle.visits.proofs.LinkSet.advance.Goals.{Joined-is_err, then-is_err, else-is_err}
 
@@ -22,11 +22,9 @@ pub loop-k-preserved : goal.loop-k-preserved
 loop-k-preserved c =
     let set = c.args.self in
     let inv = c.loop-k.invariant in
-    let next = c.visit.ensures in
-    record {
-      links = next.links ∙ visits_next _ set.extents.fits _ _ set.axis set.two _ _ _ c.loop-k.k _ (omega arith) (omega arith) c.nth-site.ensures inv.links;
-      stuck = counted c ∙ count_next _ set.extents.fits _ _ set.axis set.two _ _ _ c.loop-k.k _ (omega arith) (omega arith) c.nth-site.ensures inv.links inv.stuck (c.is_err.ensures.value ∙ next.stuck);
-    }
+    let visited = c.visit.ensures in
+    let next = visit_next _ set.extents.fits _ _ set.axis set.two _ _ _ c.loop-k.k _ (omega arith) (omega arith) c.nth-site.ensures inv.links inv.stuck (c.is_err.ensures.value ∙ visited.stuck) in
+    record { links = visited.links ∙ next.0; stuck = counted c ∙ next.1 }
 
 pub returns : goal.returns
 returns c =
