@@ -4,8 +4,9 @@ ghost use Rattle.fields.specs.Calls.{stout_call};
 ghost use Rattle.export.specs.Given.{MatrixGiven};
 ghost use Rattle.export.specs.Lists.{SmearGiven};
 
+use crate::given::give;
 use mat::Su3;
-use rows::{row, row_and_value};
+use rows::row;
 
 #[unsafe(no_mangle)]
 pub extern "C" fn jj_stout_link(
@@ -18,9 +19,11 @@ pub extern "C" fn jj_stout_link(
 ) -> u32
     ensures { MatrixGiven (stout_call ext.now site mu rho links.now) result out.new }
 {
-    let (row, u) = row_and_value(fields::stout_link(*ext, site, mu, rho, links), Su3::ZERO);
-    *out = u.into();
-    row
+    give(
+        fields::stout_link(*ext, site, mu, rho, links),
+        Su3::ZERO,
+        out,
+    )
 }
 
 #[unsafe(no_mangle)]

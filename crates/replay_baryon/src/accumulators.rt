@@ -8,7 +8,7 @@ use sample::inputs::Kind;
 // A grid of 16 cells and two densities. Lists hold sevens before their calls, and still do where a call is
 // refused that leaves them as they were.
 
-// The action density, and after it the topological charge density.
+// The action density, and after it the topological charge density; where one is refused, its part stays as it was.
 fn fill_densities(extents: [usize; 4], links: &[f64], densities: &mut [f64]) {
     let (action, charge) = densities.split_at_mut(densities.len() / 2);
     let _ = fields::action_density(extents, links, action);
@@ -40,16 +40,12 @@ fn add(
     Ok(())
 }
 
-// By number, since a call picks a density by its number.
 fn mean_lines(rt: &impl Print, acc: FluxAccumulator, grid: &[f64]) -> Result<()> {
     number_line(rt, "mean_loop", acc.mean_loop())?;
-    print!(rt; "correlation")?;
-    for k in 0..2 {
-        let mut list = [7.0; 16];
-        let r = acc.correlation(k, grid, &mut list);
-        print!(rt; " {}", Filled::of(r, &list))?;
-    }
-    println!(rt)?;
+    let [action, charge] = [0, 1].map(|k| {
+        Filled::by(&mut [7.0; 16], |list| acc.correlation(k, grid, list))
+    });
+    println!(rt; "correlation {action} {charge}")?;
     Ok(())
 }
 

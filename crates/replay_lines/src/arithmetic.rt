@@ -5,14 +5,11 @@ use rows::row_and_value;
 use sample::hash::{Fnv, Hashed};
 use sample::inputs::{Pair, Set, block, pair_at, quaternion};
 
-// A line for a call: the hash of its answers to 400 pairs. By number: a pair is made of its number.
+// A line for a call: the hash of its answers to 400 pairs.
 fn line<T: Hashed, F: Fn(Pair) -> T>(rt: &impl Print, set: Set, name: &str, call: F) -> Result<()>
     requires { F.IsAlwaysCallable call }
 {
-    let mut h = Fnv::EMPTY;
-    for i in 0..400u64 {
-        h = h.add(call(pair_at(set, i)));
-    }
+    let h = Fnv::over(400, |i| call(pair_at(set, i as u64)));
     println!(rt; "{set} {name} {h}")?;
     Ok(())
 }

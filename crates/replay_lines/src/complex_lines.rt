@@ -3,7 +3,7 @@ use complex::C64;
 use sample::hash::{Fnv, Hashed};
 
 // Number k of the sixteen, over and over. No table: a constant array is copied at each use.
-fn number(k: u64) -> f64 {
+fn number(k: usize) -> f64 {
     match k % 16 {
         0 => 0.0,
         1 => -0.0,
@@ -25,17 +25,15 @@ fn number(k: u64) -> f64 {
     }
 }
 
-// A line for a call: the hash of its answers to every four of the numbers. By number: its four hexadecimal digits pick
-// the four.
+// A line for a call: the hash of its answers to every four of the numbers, picked by four hexadecimal digits.
 fn line<T: Hashed, F: Fn(C64, C64) -> T>(rt: &impl Print, name: &str, call: F) -> Result<()>
     requires { F.IsAlwaysCallable call }
 {
-    let mut h = Fnv::EMPTY;
-    for i in 0..65536u64 {
+    let h = Fnv::over(65536, |i| {
         let a = C64::new(number(i / 4096), number(i / 256));
         let b = C64::new(number(i / 16), number(i));
-        h = h.add(call(a, b));
-    }
+        call(a, b)
+    });
     println!(rt; "complex {name} {h}")?;
     Ok(())
 }

@@ -19,25 +19,16 @@ pub fn fill(kind: Kind, links: &mut [f64]) {
     }
 }
 
-// Here and in `staples` by number: a field has no list of its sites, and a direction is given to a call as its number.
 fn plaquettes(extents: [usize; 4], links: &[f64]) -> Fnv {
-    let mut h = Fnv::EMPTY;
-    for site in 0..links.len() / 72 {
-        for (mu, nu) in PLANES {
-            h = h.add(lattice::plaquette(extents, site, mu, nu, links));
-        }
-    }
-    h
+    Fnv::over(links.len() / 72, |site| {
+        PLANES.map(|(mu, nu)| lattice::plaquette(extents, site, mu, nu, links))
+    })
 }
 
 fn staples(plan: Plan, links: &[f64]) -> Fnv {
-    let mut h = Fnv::EMPTY;
-    for site in 0..links.len() / 72 {
-        for mu in 0..4 {
-            h = h.add(lattice::staple(plan, site, mu, links));
-        }
-    }
-    h
+    Fnv::over(links.len() / 72, |site| {
+        [0, 1, 2, 3].map(|mu| lattice::staple(plan, site, mu, links))
+    })
 }
 
 // A refusal's row, or 0, and a number, or +0.

@@ -1,35 +1,19 @@
 use anyhow::{Error, Result};
-use rows::row_and_value;
 use sample::hash::Fnv;
 
-// All by number: a field has no list of its sites, and a direction is given to a call as its number.
-
 fn coords(extents: [usize; 4], sites: usize) -> Fnv {
-    let mut h = Fnv::EMPTY;
-    for n in 0..sites {
-        let (_, at) = row_and_value(lattice::coords(extents, n), [0; 4]);
-        h = h.add(at);
-    }
-    h
+    Fnv::over(sites, |n| lattice::coords(extents, n))
 }
 
 fn parities(extents: [usize; 4], sites: usize) -> Fnv {
-    let mut h = Fnv::EMPTY;
-    for n in 0..sites {
-        h = h.add(lattice::parity(extents, n));
-    }
-    h
+    Fnv::over(sites, |n| lattice::parity(extents, n))
 }
 
+// Forward and backward along each direction.
 fn neighbours(extents: [usize; 4], sites: usize) -> Fnv {
-    let mut h = Fnv::EMPTY;
-    for n in 0..sites {
-        for mu in 0..4 {
-            h = h.add(lattice::fwd(extents, n, mu));
-            h = h.add(lattice::bwd(extents, n, mu));
-        }
-    }
-    h
+    Fnv::over(sites, |n| {
+        [0, 1, 2, 3].map(|mu| (lattice::fwd(extents, n, mu), lattice::bwd(extents, n, mu)))
+    })
 }
 
 // The lines on the sites alone, which need no links.

@@ -1,3 +1,5 @@
+ghost use Rattle.std.specs.Prelude.{ℕ, ◌<◌};
+
 use complex::C64;
 use mat::Su3;
 use quat::{Mat2, Quat};
@@ -47,6 +49,17 @@ impl Fnv {
         Self::EMPTY.add(answer)
     }
 
+    // The hash of a call's answers to 0, 1, .., count - 1.
+    pub fn over<T: Hashed, F: Fn(usize) -> T>(count: usize, call: F) -> Self
+        requires { (n : ℕ) → n < count → F.pre call n }
+    {
+        let mut h = Self::EMPTY;
+        for n in 0..count {
+            h = h.add(call(n));
+        }
+        h
+    }
+
     fn word(self, word: u64) -> Self {
         let mut state = self.state;
         for byte in word.to_le_bytes() {
@@ -69,10 +82,13 @@ pub struct Filled {
 }
 
 impl Filled {
-    pub fn of<T: Copy>(answer: Result<T, Refusal>, list: &[f64]) -> Self {
+    pub fn by<F: FnOnce(&mut [f64]) -> Result<(), Refusal>>(list: &mut [f64], call: F) -> Self
+        requires { F.IsAlwaysCallable call }
+    {
+        let row = rows::row(call(list));
         Self {
-            row: rows::row(answer),
-            list: Fnv::of(list),
+            row,
+            list: Fnv::of(&*list),
         }
     }
 }
