@@ -1,19 +1,16 @@
 -- The matrices that a list of bounded numbers holds are bounded.
 use Prim.Native.Nat.{ℕ, ◌+◌, ◌*◌, ◌<◌, ◌≤◌}
-use mathlib.Core.Bool.{Bool, true, false, ◌&&◌}
-use mathlib.Core.List.{List, [], ◌∷◌}
-use mathlib.Core.Path.{◌≡◌, refl, sym, ◌∙◌}
+use mathlib.Core.Bool.{true}
+use mathlib.Core.List.{List}
+use mathlib.Core.Path.{◌≡◌}
 use native.Mathlib.Omega.{arith}
 use lib.Ieee.{Float, nan}
 use lib.ListN.{length, get_or}
-use Rattle.std.specs.List.{fold, list_all}
-use Rattle.std.proofs.Math.Bool.{and_assoc}
-use Rattle.folds.proofs.Lists.{all_listed}
 use Rattle.folds.proofs.Laws.{all_each}
 use Rattle.links.specs.Store.{cell_at, matrix_at}
 use Rattle.links.specs.Field.{place_of, field_of, Sized}
 use Rattle.links.proofs.Laws.{room}
-use Rattle.bounds.specs.Magnitude.{Magnitude, within_two, all_within_two}
+use Rattle.bounds.specs.Magnitude.{Magnitude, all_within_two}
 use Rattle.bounds.proofs.Numbers.{within_two_lem}
 use Rattle.bounds.proofs.Matrices.{ComplexMagnitude, MatrixMagnitude, magnitude_each}
 
@@ -36,14 +33,3 @@ module _ (l : List Float) (all : all_within_two l ≡ true) where
 
   pub within_two_field_of : (v mu n : ℕ) → Sized l v → mu < 4 → n < v → MatrixMagnitude 1 (field_of v l mu n)
   within_two_field_of = magnitude_field_of l within_two_at
-
--- ## The test in one pass along the list
-
-after : (b : Bool) (l : List Float) → fold (λ all x. all && within_two x) b l ≡ b && list_all within_two l
-after false [] = refl
-after true [] = refl
-after b (x ∷ l) = after (b && within_two x) l ∙ and_assoc b (within_two x) (list_all within_two l)
-
-pub all_folded : (l : List Float) {b : Bool} → b ≡ fold (λ all x. all && within_two x) true l → b ≡ all_within_two l
-unfolding all_within_two
-all_folded l e = e ∙ after true l ∙ sym (all_listed within_two l nan)

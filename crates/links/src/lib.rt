@@ -2,7 +2,7 @@
 // has where the link of a direction at a site begins; links follow each other by eighteen numbers.
 #![tactic(auto)]
 
-ghost use Rattle.std.specs.Prelude.{◌≡◌, ◌+◌, ◌<◌, ◌≤◌, length, take, drop};
+ghost use Rattle.std.specs.Prelude.{◌≡◌, ◌+◌, ◌<◌, ◌≤◌, length};
 ghost use Rattle.mat.specs.Matrix.{at};
 ghost use Rattle.links.specs.Store.{cell_at, put_cell, matrix_at, with_matrix};
 ghost use Rattle.links.specs.Field.{place_of, field_of, Stored};
@@ -17,15 +17,6 @@ pub struct Lent<'a> {
     pub links: &'a [f64],
     pub place: usize,
     ghost room: { place + 18 ≤ length links.now },
-}
-
-impl<'a> Lent<'a> {
-    // Its eighteen numbers.
-    pub fn numbers(&self) -> &'a [f64]
-        ensures { result.now ≡ take 18 (drop self.now.place self.now.links.now) }
-    {
-        &self.links[self.place..][..18]
-    }
 }
 
 impl<'a> Entries for Lent<'a> {

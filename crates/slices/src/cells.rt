@@ -83,9 +83,8 @@ pub fn slice_cells(grid: &mut [f64], loops: &[f64], densities: &Densities, time:
     ensures { grid.new ≡ with_slice densities.now.extents.d (number loops.now) densities.now.numbers.now time grid.old }
 {
     let extents = densities.extents;
-    let places = extents.space().cells();
-    let nx = extents.d[1];
-    let ny = extents.d[2];
+    let space = extents.space();
+    let places = space.cells();
     for (j, sum) in grid.iter_mut().enumerate() {
         let slice = TimeSlice {
             extents,
@@ -93,8 +92,6 @@ pub fn slice_cells(grid: &mut [f64], loops: &[f64], densities: &Densities, time:
             density: densities.density(j / places),
             time,
         };
-        let r = j % places;
-        let q = r / nx;
-        *sum += slice.cell([r % nx, q % ny, q / ny]);
+        *sum += slice.cell(space.coords(j % places));
     }
 }
