@@ -62,8 +62,9 @@ pub fn coupled_field(d: [usize; 4], c: f64, links: &[f64]) -> Result<Su3Lattice<
     lattice(extents, links)
 }
 
-// No type of a site comes of it: `steps::Position`, `strength::Site` and `paths::Walker` are types of a site with
-// what belongs to it; a number alone has one bound, which is no shorter in a type.
+// No type of a site's number comes of it, nor below of a direction: loops count them and arrays are read at them, so
+// that a type would be made and opened at each of these places, and the definitions are over numbers. A site with what
+// belongs to it has types: `steps::Position`, `strength::Site`, `paths::Walker`.
 pub fn site(extents: Extents, n: usize) -> Result<(), Refusal>
     ensures { Checked ((bad_site extents.d n, Refusal.Site) ∷ []) (λ _. n < volume extents.d) result }
 {
@@ -74,7 +75,6 @@ pub fn site(extents: Extents, n: usize) -> Result<(), Refusal>
     }
 }
 
-// No type of a direction comes of it: it is a number that an array is read at, with one bound.
 pub fn direction(mu: usize) -> Result<(), Refusal>
     ensures { Checked ((bad_direction mu, Refusal.Direction) ∷ []) (λ _. mu < 4) result }
 {
