@@ -62,7 +62,7 @@ pub fn finite<T: Numeric>(x: T) -> Result<T, Refusal>
     }
 }
 
-// The same of a list.
+// Row 10 for a list.
 pub fn all_finite(l: &[f64]) -> Result<(), Refusal>
     ensures { result ≡ answered (first_refusal ((bad_numbers l.now, Refusal.NotFinite) ∷ [])) tt }
 {

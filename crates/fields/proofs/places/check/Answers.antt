@@ -14,7 +14,7 @@ unfolding first_refusal answered bad_numbers
 returns-in_err-all_finite g c =
     let bad : finite_numbers (g.W.Filling.numbers c.args.what.now c.loop-k.k) ≡ false = search (rules, tests) in
     let all : finite_numbers (placed (g.W.Filling.numbers c.args.what.now) (g.W.Filling.places c.args.what.now)) ≡ false =
-        sym (finite_placed _ _) ∙ all_fails _ _ c.loop-k.k (omega arith) bad in
+    sym (finite_placed _ _) ∙ all_fails _ _ c.loop-k.k (omega arith) bad in
     search (rules, all)
 
 pub loop-k-preserved : goal.loop-k-preserved
@@ -27,5 +27,5 @@ pub returns : goal.returns
 unfolding first_refusal answered bad_numbers
 returns g c =
     let all : true ≡ finite_numbers (placed (g.W.Filling.numbers c.args.what.now) (g.W.Filling.places c.args.what.now)) =
-        all_done _ {m = c.loop-k.k} (omega arith) c.loop-k.invariant ∙ finite_placed _ _ in
+    all_done _ {m = c.loop-k.k} (omega arith) c.loop-k.invariant ∙ finite_placed _ _ in
     search (rules, all)
