@@ -14,7 +14,7 @@ fn lengths(rt: &impl Print) -> Result<()> {
 fn smearing(rt: &impl Print, links: &[f64]) -> Result<()> {
     let r = fields::stout_step(EXTENTS, 0.1, links, &mut [7.0; 1151]);
     line(rt, "1151 smeared numbers", r)?;
-    let r = fields::stout_step(EXTENTS, 0.0 / 0.0, links, &mut [7.0; 1152]);
+    let r = fields::stout_step(EXTENTS, f64::NAN, links, &mut [7.0; 1152]);
     line(rt, "smearing by NaN", r)?;
     let r = fields::stout_step(EXTENTS, 0.1, links, &mut [7.0; 1152]);
     line(rt, "smearing by 0.1", r)

@@ -53,26 +53,22 @@ fn mean_lines(rt: &impl Print, acc: FluxAccumulator, grid: &[f64]) -> Result<()>
 pub fn lines(rt: &impl Print, kind: Kind) -> Result<()> {
     let mut grid = [7.0; 32];
     let mut acc = FluxAccumulator::new([2, 4, 2], NEAR, 3, 2, &mut grid).map_err(Error::msg)?;
-    let mut links = [0.0; 2304];
-    let mut densities = [7.0; 64];
     add(
         rt,
         &mut acc,
         kind,
         [2, 2, 4, 2],
-        &mut links,
-        &mut densities,
+        &mut [0.0; 2304],
+        &mut [7.0; 64],
         &mut grid,
     )?;
-    let mut links = [0.0; 4608];
-    let mut densities = [7.0; 128];
     add(
         rt,
         &mut acc,
         kind,
         [4, 2, 4, 2],
-        &mut links,
-        &mut densities,
+        &mut [0.0; 4608],
+        &mut [7.0; 128],
         &mut grid,
     )?;
     mean_lines(rt, acc, &grid)

@@ -13,9 +13,9 @@ fn with_staircase(h: Fnv, d: [i32; 3]) -> Result<Fnv> {
 // Every offset from -32 to 32 along each axis, z fastest.
 fn over_all() -> Result<Fnv> {
     let mut h = Fnv::EMPTY;
-    for x in -32..33 {
-        for y in -32..33 {
-            for z in -32..33 {
+    for x in -32..=32 {
+        for y in -32..=32 {
+            for z in -32..=32 {
                 h = with_staircase(h, [x, y, z])?;
             }
         }

@@ -35,11 +35,8 @@ pub fn all_lines(rt: &impl Print) -> Result<()> {
     complex_lines::lines(rt)?;
     arithmetic::lines(rt, Set::Raw)?;
     arithmetic::lines(rt, Set::Units)?;
-    let mut links = [0.0; 1152];
-    lattice_lines(rt, [2, 2, 2, 2], &mut links)?;
-    let mut links = [0.0; 2304];
-    lattice_lines(rt, [4, 2, 2, 2], &mut links)?;
-    let mut links = [0.0; 6912];
-    lattice_lines(rt, [2, 6, 4, 2], &mut links)?;
+    lattice_lines(rt, [2, 2, 2, 2], &mut [0.0; 1152])?;
+    lattice_lines(rt, [4, 2, 2, 2], &mut [0.0; 2304])?;
+    lattice_lines(rt, [2, 6, 4, 2], &mut [0.0; 6912])?;
     sweep_part(rt)
 }

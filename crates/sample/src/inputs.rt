@@ -138,8 +138,8 @@ fn spoilt(u: Su3, draw: u64) -> Su3 {
     let place = ((draw >> 8) % 18) as usize;
     match draw >> 61 {
         0 => Su3::ZERO,
-        1 => with_number(u, place, 0.0 / 0.0),
-        2 => with_number(u, place, 1.0 / 0.0),
+        1 => with_number(u, place, f64::NAN),
+        2 => with_number(u, place, f64::INFINITY),
         3 => with_number(u, place, 1e200),
         // 2^-1074
         4 => with_number(u, place, 5e-324),

@@ -6,6 +6,7 @@ ghost use Rattle.strength.specs.Densities.{trace_product, plane_density, action_
 
 use crate::{Density, Plane, Site};
 use mat::Su3;
+use std::f64::consts::PI;
 
 // Re Tr a·b, of which only the diagonal is worked out.
 #[tactic(auto, using(mat::proofs::Tables::product_is), unfolding(crate::specs::Densities::trace_product, mat::specs::Matrix::trace_of, mat::specs::Matrix::re_tr, complex::specs::Complex::cadd))]
@@ -43,7 +44,7 @@ impl Site<'_> {
         let x = trace_product(self.plane(0, 1).strength(), self.plane(2, 3).strength());
         let y = trace_product(self.plane(0, 2).strength(), self.plane(1, 3).strength());
         let z = trace_product(self.plane(0, 3).strength(), self.plane(1, 2).strength());
-        8.0 / (32.0 * 3.141592653589793 * 3.141592653589793) * (x - y + z)
+        8.0 / (32.0 * PI * PI) * (x - y + z)
     }
 
     // A density at the site.
