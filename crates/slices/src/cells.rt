@@ -11,7 +11,8 @@ use crate::Densities;
 use crate::time_slice::TimeSlice;
 use geometry::wrap;
 
-// Goes on with loop values, each times a number of the density; these are nt apart.
+// Goes on with loop values, each times a number of the density; these are nt apart. By the place: with
+// `step_by(nt)`, which passes over the numbers between one by one, `add` on 8^4 takes 1.7 times as long.
 #[tactic(auto, unfolding(folds::specs::Folds::fold_to, crate::specs::Parts::run_sum))]
 fn run(loops: &[f64], density: &[f64], nt: usize, sum: f64) -> f64
     requires { Reaches loops.now density.now nt }
