@@ -4,9 +4,8 @@
 ghost use Rattle.std.specs.Prelude.{◌≡◌, ◌+◌, ◌*◌, ◌≤◌, length};
 ghost use Rattle.std.specs.List.{list_all};
 ghost use Rattle.geometry.specs.Radix.{volume};
-ghost use Rattle.links.specs.Lent.{lent_of};
 ghost use Rattle.gauge.specs.Field.{link_of};
-ghost use Rattle.sound.specs.Sound.{sound_number, sound_of, unsound_links, Listed};
+ghost use Rattle.sound.specs.Sound.{sound_number, unsound_links, Listed};
 
 use gauge::Su3Lattice;
 
