@@ -1,5 +1,6 @@
 // Staircases, paths, and the loop of three quarks: each call checks what it is handed by the rows of
-// its table, in order, and answers what its definition says.
+// its table, in order, and answers what its definition says. The calls begin alike and stay apart: names, arguments
+// and rows of each are the scope's.
 #![tactic(auto)]
 
 mod quarks;

@@ -20,6 +20,6 @@ fn main(rt: HostRuntime) {
     let n = io::read_full(STDIN, &mut input);
     skip_rest();
     let text = measurements::columns(&input[..n]);
-    // There is no line for a text that cannot be written.
+    // Bytes as they are: `ascii` says why the text is no string. There is no line for one that cannot be written.
     let _ = rt.write_all(text.as_slice());
 }

@@ -4,7 +4,7 @@
 
 use std::io;
 
-// All extents t, x, y, z with at most 64 sites, t fastest.
+// All extents t, x, y, z with at most 64 sites, t fastest. The inputs stand in lists, each of its length.
 const ACCEPTED: [[u8; 4]; 19] = [
     [2, 2, 2, 2],
     [4, 2, 2, 2],
@@ -58,6 +58,7 @@ fn case(rt: &impl Print, input: &[u8]) -> io::Result<()> {
     }
     println!(rt)?;
     let text = measurements::columns(input);
+    // Bytes as they are: `ascii` says why the text is no string.
     rt.write_all(text.as_slice())
 }
 

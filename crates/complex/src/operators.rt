@@ -4,6 +4,7 @@ ghost use Rattle.complex.specs.Complex.{cadd, csub, cmul, cneg};
 use crate::C64;
 use std::ops::{Add, AddAssign, Mul, Neg, Sub, SubAssign};
 
+// One trait for each operator, and so one `impl`.
 impl Add for C64 {
     type Output = Self;
 

@@ -1,4 +1,4 @@
-// What a call is handed, judged: each check is a row of the table.
+// What a call is handed, judged: each check is a row of the table, but for `field` and `coupled_field`.
 #![tactic(auto, unfolding(rows::specs::Refusals::first_refusal, rows::specs::Refusals::refusal_in, crate::specs::Situations::bad_extents, crate::specs::Situations::bad_coupling, crate::specs::Situations::bad_links, crate::specs::Situations::bad_site, crate::specs::Situations::bad_direction, crate::specs::Situations::bad_plane, crate::specs::Situations::bad_coords, folds::specs::Folds::all_below, crate::specs::Situations::bad_room))]
 
 ghost use Rattle.std.specs.Prelude.{◌≡◌, ◌*◌, ◌<◌, ◌≤◌, [], ◌∷◌, length, not, nat_eq};
@@ -13,6 +13,7 @@ use gauge::Su3Lattice;
 use geometry::Extents;
 use rows::Refusal;
 
+// A host hands in any four numbers; what stands below takes `Extents`.
 pub fn extents(d: [usize; 4]) -> Result<Extents, Refusal>
     ensures { Checked ((bad_extents d, Refusal.Extents) ∷ []) (λ e. e.d ≡ d) result }
 {

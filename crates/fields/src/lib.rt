@@ -1,6 +1,7 @@
 // Smearing, field strength and densities of a field in a lent list: each call checks what it is handed by
 // its rows, in order, and answers the refusal or what its definition says. A list that is filled stays as
-// it was where the call is refused: no number is stored before all are known to be finite.
+// it was where the call is refused: no number is stored before all are known to be finite. The calls begin
+// alike and stay apart: names, arguments and rows of each are the scope's.
 #![tactic(auto)]
 
 mod checks;

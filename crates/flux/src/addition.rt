@@ -1,6 +1,6 @@
 #![tactic(auto, unfolding(rows::specs::Refusals::first_refusal, rows::specs::Refusals::refusal_in, rows::specs::Refusals::answered, rows::specs::Refusals::finally, rows::specs::Refusals::unless, crate::specs::Situations::bad_per_density, crate::specs::Situations::bad_scratch, crate::specs::Situations::other_count, crate::specs::Situations::other_grid, crate::specs::Situations::full_samples, crate::specs::Calls::add_refusal, crate::specs::Calls::loop_at, crate::specs::Sums::added_grid, crate::specs::Sums::added_of, crate::specs::Sums::with_sums))]
 
-ghost use Rattle.std.specs.Prelude.{◌≡◌, [], ◌∷◌, length, drop};
+ghost use Rattle.std.specs.Prelude.{◌≡◌, length, drop};
 ghost use Rattle.geometry.specs.Radix.{volume};
 ghost use Rattle.rows.specs.Refusals.{Checked};
 ghost use Rattle.rows.specs.declared.Refusal.{Refusal};

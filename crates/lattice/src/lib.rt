@@ -1,5 +1,6 @@
 // A gauge field in a lent list: each call checks what it is handed by the rows of its table, in
-// order, and answers the refusal or what its definition says.
+// order, and answers the refusal or what its definition says. The calls begin alike and stay apart: names, arguments
+// and rows of each are the scope's. Extents are four numbers, since a host's need not fit.
 #![tactic(auto)]
 
 mod check;

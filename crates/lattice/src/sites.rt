@@ -52,7 +52,7 @@ pub fn fwd(extents: [usize; 4], site: usize, mu: usize) -> Result<usize, Refusal
     Ok(Strides::new(extents).fwd(site, mu))
 }
 
-// The site before along a direction.
+// The site before along a direction. A call of its own: the name is the Rust's.
 pub fn bwd(extents: [usize; 4], site: usize, mu: usize) -> Result<usize, Refusal>
     ensures { result ≡ bwd_call extents site mu }
 {

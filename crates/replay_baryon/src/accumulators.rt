@@ -49,7 +49,7 @@ fn mean_lines(rt: &impl Print, acc: FluxAccumulator, grid: &[f64]) -> Result<()>
     Ok(())
 }
 
-// Two fields of a kind are added to a new accumulator.
+// Two fields of a kind are added to a new accumulator, by a call with numbers of its own for each line.
 pub fn lines(rt: &impl Print, kind: Kind) -> Result<()> {
     let mut grid = [7.0; 32];
     let mut acc = FluxAccumulator::new([2, 4, 2], NEAR, 3, 2, &mut grid).map_err(Error::msg)?;

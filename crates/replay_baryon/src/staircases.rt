@@ -10,7 +10,7 @@ fn with_staircase(h: Fnv, d: [i32; 3]) -> Result<Fnv> {
     Ok(h.add(count).add(&codes[..count]))
 }
 
-// Every offset from -32 to 32 along each axis, z fastest.
+// Every offset from -32 to 32 along each axis, z fastest: the numbers are what is tried.
 fn over_all() -> Result<Fnv> {
     let mut h = Fnv::EMPTY;
     for x in -32..=32 {

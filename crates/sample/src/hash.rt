@@ -49,7 +49,7 @@ impl Fnv {
         Self::EMPTY.add(answer)
     }
 
-    // The hash of a call's answers to 0, 1, .., count - 1.
+    // The hash of a call's answers to 0, 1, .., count - 1: there is no list of them.
     pub fn over<T: Hashed, F: Fn(usize) -> T>(count: usize, call: F) -> Self
         requires { (n : ℕ) → n < count → F.pre call n }
     {

@@ -1,7 +1,7 @@
 // One slice's sums for every cell of the grid. There is no division and no test inside a row: it goes up to
 // where the offset reaches the row's end, and then on from its beginning. Throughout, c are the coordinates of
 // the cell's offset.
-ghost use Rattle.std.specs.Prelude.{◌≡◌, ◌+◌, ◌*◌, ◌%◌, ◌<◌, ◌≤◌, length, get_or};
+ghost use Rattle.std.specs.Prelude.{◌≡◌, ◌+◌, ◌*◌, ◌%◌, ◌<◌, length, get_or};
 ghost use Rattle.geometry.specs.Radix.{Within};
 ghost use Rattle.gauge.specs.Polyakov.{space};
 ghost use Rattle.slices.specs.Slices.{places, number, product_at, slice_sum, with_slice};

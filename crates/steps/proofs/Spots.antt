@@ -6,7 +6,7 @@ use borrow.Author.Tests.{lt-ltb, le-ltb}
 use Rattle.std.proofs.Common.{replicate, drop}
 use Rattle.std.proofs.lemmas.List.{length-replicate}
 use lib.Seq.{drop-cons, get_or-append_seam, set-append_seam}
-use mathlib.Core.Path.{◌≡◌, refl, ap, ap₂, sym, ◌∙◌}
+use mathlib.Core.Path.{◌≡◌, refl, ap, sym, ◌∙◌}
 use native.Mathlib.Decide.{dec_lt}
 use native.Mathlib.Nat.{mod-eq_of_lt, mod_self, div-eq_of_lt, mul-mod_right, mul-div_cancel_left}
 use native.Mathlib.Omega.{arith}

@@ -1,6 +1,6 @@
 #![tactic(auto, unfolding(geometry::specs::Steps::spot_of), using(crate::proofs::Spots::coord, crate::proofs::Spots::coord_fits, crate::proofs::Spots::spot_within, geometry::proofs::Stride::sites_last, geometry::proofs::Neighbour::fwd_below, geometry::proofs::Neighbour::bwd_below))]
 
-ghost use Rattle.std.specs.Prelude.{◌≡◌, ◌+◌, ◌-◌, ◌%◌, ◌<◌, ◌≤◌};
+ghost use Rattle.std.specs.Prelude.{◌≡◌, ◌+◌, ◌-◌, ◌%◌, ◌<◌};
 ghost use Rattle.geometry.specs.Radix.{volume, next_coords, Within};
 ghost use Rattle.geometry.specs.Steps.{fwd_of, bwd_of, neighbours_of};
 
@@ -8,7 +8,7 @@ use crate::{Position, Strides};
 use geometry::{Extents, Neighbours, Spot, wrap};
 
 // The coordinates of the site with the next number, from a site's: the first that can go on does, those before it
-// begin again.
+// begin again. By number: the coordinates are stored where they stand.
 #[tactic(auto, using(crate::proofs::Spots::goes_on))]
 fn next_coords(extents: Extents, mut c: [usize; 4]) -> [usize; 4]
     requires { Within extents.d c }

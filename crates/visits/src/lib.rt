@@ -23,7 +23,7 @@ pub struct LinkSet {
 
 impl LinkSet {
     // Updates the set's link at a site where it stands, unless it is stuck. The list is handed in beside the
-    // set, which is made of a job alone.
+    // set, which is made of a job alone; its length is asked for, as `lattice`'s cold start says why.
     #[tactic(auto, using(crate::proofs::OneSite::site_stuck, crate::proofs::OneSite::site_moved))]
     fn visit(self, links: &mut [f64], n: usize) -> Result<(), Stuck>
         requires fits { length links.old ≡ 72 * volume self.extents.d }
