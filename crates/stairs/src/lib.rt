@@ -43,6 +43,7 @@ impl Model for Stairs {
 }
 
 impl Stairs {
+    #[tactic(auto, using(crate::proofs::Padded::defaults))]
     pub fn new() -> Self
         ensures { result ≡ [] }
     {

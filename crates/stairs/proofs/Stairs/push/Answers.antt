@@ -1,4 +1,4 @@
-use Rattle.std.proofs.Common.{rules, ◌<◌, ◌+◌, [], ◌∷◌, ◌++◌, length, take, replicate, All, arith}
+use Rattle.std.proofs.Common.{rules, ◌<◌, [], ◌∷◌, take, add-zero, arith}
 use Rattle.std.proofs.lemmas.List.Elements.{All-append}
 use Rattle.std.proofs.Math.ListN.{length-append}
 use Rattle.stairs.proofs.Padded.{pushed, padded}
