@@ -2,6 +2,7 @@
 // refused ones. How the stored lines were made is in docs/DECISIONS.md.
 #![tactic(auto)]
 
+use sample::output::Output;
 use std::io;
 
 // All extents t, x, y, z with at most 64 sites, t fastest. The inputs stand in lists, each of its length.
@@ -84,6 +85,7 @@ fn miscounted(rt: &impl Print) -> io::Result<()> {
 }
 
 fn main(rt: HostRuntime) -> io::Result<()> {
+    let rt = Output { rt };
     cases(&rt, &ACCEPTED)?;
     cases(&rt, &REFUSED)?;
     miscounted(&rt)

@@ -49,7 +49,7 @@ impl FluxAccumulator {
         ensures grid { drop (length grid.now) scratch.new ≡ grid_of lattice.now.extents.d (baryon_of lattice.now.extents.d (link_of lattice.now.extents.d lattice.now.links.now) self.now.t_len (offsets_of quarks)) densities.now.numbers.now self.now.t_len densities.now.count grid.now }
     {
         let (loops, sums) = scratch.split_at_mut(grid.len());
-        sums.copy_from_slice(grid);
+        slices::copy(sums, grid);
         let places = lattice.extents.space().cells();
         let w = gather::gather(
             &mut loops[..places],

@@ -7,7 +7,7 @@ use native.Mathlib.Nat.{zero-mul, mul-zero, mul_comm, zero-add, mod-lt, mod-eq_o
 use native.Mathlib.Decide.{dec_lt}
 use native.Mathlib.Omega.{arith}
 use lib.Dec.{ltb}
-use lib.ListN.{length, get_or, set}
+use lib.ListN.{length, get_or, set, replicate}
 use borrow.Author.Tests.{lt-ltb, le-ltb}
 use Rattle.geometry.specs.Radix.{volume, coords_of, index_of, next_coords, Within}
 
@@ -95,3 +95,10 @@ next_coords_lem (e ∷ d) n h = go (next_coords_lem d (n / e) (right_pos e (volu
         let m : (n + 1) % e ≡ 0 = ap (λ (x : ℕ). x % e) next ∙ add-mul-mod_self_left 0 e (n / e + 1) ∙ mod-eq_of_lt pos in
         let q : (n + 1) / e ≡ n / e + 1 = ap (λ (x : ℕ). x / e) next ∙ add-mul-div_left 0 (n / e + 1) pos ∙ (rw (div-eq_of_lt pos) (zero-add (n / e + 1))) in
         rw (le-ltb (n % e + 1) e (omega arith), m, q, ih)
+
+pub coords_zero : (d : List ℕ) → 0 < volume d → coords_of d 0 ≡ replicate (length d) 0
+unfolding coords_of volume
+coords_zero [] h = refl
+coords_zero (e ∷ d) h =
+    let pos = left_pos e (volume d) h in
+    rw (mod-eq_of_lt pos, div-eq_of_lt pos, coords_zero d (right_pos e (volume d) h))

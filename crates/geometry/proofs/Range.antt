@@ -5,8 +5,8 @@ use mathlib.Core.Path.{◌≡◌, refl, ap, sym, ◌∙◌}
 use native.Mathlib.Decide.{dec_lt}
 use native.Mathlib.Numerals.{add-one}
 use native.Mathlib.Omega.{arith}
-use lib.ListN.{length, get_or, take, length-append, get_or-append}
-use lib.Seq.{get_or_at, take_all, take-suc-set}
+use lib.ListN.{length, get_or, take, drop, length-append, get_or-append, take-append-drop}
+use lib.Seq.{get_or_at, take_all, take-suc-set, drop-set-lt}
 use Rattle.folds.specs.Folds.{fill}
 use Rattle.folds.proofs.Laws.{length-fill}
 use Rattle.geometry.specs.Range.{range}
@@ -36,6 +36,14 @@ module _ {A : Type 0} (f : ℕ → A) where
   take-fill l (suc n) h =
       take-suc-set (fill f l n) n (f n) (rw (length-fill f l n) (omega arith))
       ∙ ap (λ (k : List A). k ++ (f n ∷ [])) (take-fill l n (omega arith)) ∙ sym (listed_next n)
+
+  pub drop-fill : (l : List A) (n k : ℕ) → n ≤ k → drop k (fill f l n) ≡ drop k l
+  unfolding fill
+  drop-fill l zero k h = refl
+  drop-fill l (suc n) k h = drop-set-lt k (fill f l n) n (f n) (omega arith) ∙ drop-fill l n k (omega arith)
+
+  pub fill_front : (l : List A) (n : ℕ) → n ≤ length l → fill f l n ≡ map f (range n) ++ drop n l
+  fill_front l n h = sym (take-append-drop n (fill f l n)) ∙ rw (take-fill l n h, drop-fill l n n (omega arith))
 
   -- all of them
   pub fill_listed : (l : List A) (n : ℕ) → length l ≡ n → fill f l n ≡ map f (range n)

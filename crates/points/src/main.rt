@@ -12,6 +12,7 @@ use mat::Su3;
 use rng::Rng;
 use rows::Refusal;
 use sample::hash::{Bits, pattern};
+use sample::output::Output;
 use std::fmt::Display;
 
 // What splitmix64 gives from the states 0 and 1234567, and xoshiro256++ from 1, 2, 3, 4; where they
@@ -48,7 +49,7 @@ const XOSHIRO_1234: [u64; 10] = [
 // What has been compared so far, and how much of it differed. Each comparison is a line.
 #[derive(Drop)]
 struct Tally {
-    rt: HostRuntime,
+    rt: Output<HostRuntime>,
     compared: u32,
     differ: u32,
 }
@@ -126,7 +127,7 @@ fn sites(t: &mut Tally) -> Result<()> {
 
 fn main(rt: HostRuntime) -> Result<()> {
     let mut t = Tally {
-        rt,
+        rt: Output { rt },
         compared: 0,
         differ: 0,
     };

@@ -1,5 +1,5 @@
 -- Squares and powers of two, in order. Assumes nothing.
-use Rattle.std.proofs.Common.{◌≡◌, ℕ, suc, ◌*◌, ◌^◌, ◌<◌, ◌≤◌, lt_of_lt_of_le, lt_irrefl, lt_of_not-le, not-le_of_lt, arith, pow_mono}
+use Rattle.std.proofs.Common.{◌≡◌, ℕ, suc, ◌*◌, ◌^◌, ◌<◌, ◌≤◌, le_of_lt, lt_of_le_of_lt, mul-le-mul_left, mul-lt-mul_of_pos_right, lt_of_lt_of_le, lt_irrefl, lt_of_not-le, not-le_of_lt, arith, pow_mono}
 use lib.Pow.{pow-lt}
 
 pub le_of_lt_suc : {x y : ℕ} → x < suc y → x ≤ y
@@ -10,6 +10,12 @@ le_of_not_lt f = le_of_lt_suc (lt_of_not-le f)
 
 pub squares : (a b : ℕ) → a * b * (a * b) ≡ a * a * (b * b)
 squares a b = omega arith
+
+pub product_lt : (a b m n : ℕ) → a < m → b < n → a * b < m * n
+product_lt a b m n h k = lt_of_le_of_lt (mul-le-mul_left a (le_of_lt k)) (mul-lt-mul_of_pos_right h (pos_of b n k))
+  where
+    pos_of : (b n : ℕ) → b < n → 0 < n
+    pos_of b n k = omega arith
 
 pub sq_mono : {a b : ℕ} → a ≤ b → a * a ≤ b * b
 sq_mono h = grind arith

@@ -9,5 +9,5 @@ mod totals;
 
 pub use cells::slice_cells;
 pub use densities::Densities;
-pub use lists::clear;
+pub use lists::{clear, copy};
 pub use totals::{density_sums, total};

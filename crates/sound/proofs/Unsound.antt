@@ -34,6 +34,11 @@ sound_by (inf true) = refl
 sound_by (inf false) = refl
 sound_by (fin s m e) = refl
 
+-- ## where a link stands in the list
+
+pub link_at : (v k : ℕ) → place_of v (k / v) (k % v) ≡ 18 * k
+link_at v k = let e = mod-add-div k v in let f = mul_comm (k / v) v in omega (arith, e, f)
+
 -- ## the eighteen numbers of a matrix
 
 pairs : (test : ℕ → Bool) (n : ℕ) → all_below test (2 * n) ≡ all_below (λ k. test (2 * k) && test (2 * k + 1)) n
@@ -120,11 +125,7 @@ sound_at v l k = sound_of (field_of v l (k / v) (k % v))
 
 numbers_sound : (v : ℕ) (l : List Float) (k : ℕ) → 18 * k + 18 ≤ length l → list_all sound_number (take 18 (drop (18 * k) l)) ≡ sound_at v l k
 unfolding sound_at
-numbers_sound v l k h =
-    let e = mod-add-div k v in
-    let f = mul_comm (k / v) v in
-    let place : place_of v (k / v) (k % v) ≡ 18 * k = omega (arith, e, f) in
-    rw place (sound_numbers l (18 * k) h)
+numbers_sound v l k h = rw (link_at v k) (sound_numbers l (18 * k) h)
 
 -- the numbers that are left after k links of l, those of `old` being what was written over
 pub record Along (v : ℕ) (l : List Float) (old : List ℕ) (k : ℕ) (rest : List Float) (c : ℕ) (new : List ℕ) : Type 0 where

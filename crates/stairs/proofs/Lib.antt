@@ -3,3 +3,4 @@ pub mod Best
 pub mod Places
 pub mod Arrives
 pub mod Bytes
+mod Padded

@@ -1,5 +1,5 @@
 -- The staircase of unit steps from the origin to an offset d that stays as near as it can to the straight line. Definitions only.
-use Rattle.std.specs.Prelude.{ℕ, zero, suc, ◌+◌, ◌<◌, ◌≤◌, Bool, cond, ◌||◌, List, [], ◌∷◌, map, set, ℤ, pos, nat_abs, ◌+ℤ◌, Float}
+use Rattle.std.specs.Prelude.{ℕ, zero, suc, ◌+◌, ◌<◌, ◌≤◌, Bool, false, cond, ◌||◌, List, [], ◌∷◌, map, set, ℤ, pos, nat_abs, ◌+ℤ◌, Float}
 use Rattle.std.specs.Int.{int_signum}
 use Rattle.std.specs.Int.Signed.{lt_z}
 use Rattle.std.specs.Float.Ieee.{lt}
@@ -59,6 +59,10 @@ steps_to d = nat_abs (along_of d 0) + nat_abs (along_of d 1) + nat_abs (along_of
 
 unfoldable pub staircase_of : List ℤ → List Step
 staircase_of d = map (step_at d) (range (steps_to d))
+
+-- what stands at places past a staircase's end
+abbrev pub no_step : Step
+no_step = record { axis = 0; forward = false }
 
 -- a place that so many steps can reach
 pub record Reached (p : List ℤ) : Type 0 where

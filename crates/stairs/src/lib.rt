@@ -9,7 +9,6 @@ mod offsets;
 
 ghost use Rattle.std.specs.Prelude.{◌<◌, ◌≤◌, ◌≡◌, [], ◌∷◌, ◌++◌, length, All};
 
-use arrayvec::ArrayVec;
 pub use climb::staircases;
 pub use offsets::Offset;
 use std::marker::Model;
@@ -21,29 +20,36 @@ pub struct Step {
     pub forward: bool,
 }
 
-// At most 96 steps along axes of the lattice.
-#[derive(Drop)]
+// At most 96 steps along axes of the lattice, at the front of the array. The places past them hold the default
+// step, so that the steps alone make the value.
+#[derive(Clone, Copy)]
 pub struct Stairs {
-    steps: ArrayVec<Step, 96>,
+    steps: [Step; 96],
+    count: usize,
 }
 
 impl Model for Stairs {
-    ghost use Rattle.std.specs.Prelude.{◌<◌, List, All};
+    ghost use Rattle.std.specs.Prelude.{◌<◌, ◌≤◌, ◌-◌, ◌≡◌, ◌++◌, List, All, length, take, replicate};
     ghost use Rattle.stairs.specs.declared.Step.{Step};
+    ghost use Rattle.stairs.specs.Staircase.{no_step};
 
     ghost Value = { List Step };
 
-    ghost view = { λ s. s.steps.items };
+    ghost view = { λ s. take s.count s.steps };
 
-    ghost invariant = { λ s. All (λ x. x.axis < 4) s.steps.items };
+    ghost invariant = { λ s. (s.count ≤ 96) × (length (take s.count s.steps) ≡ s.count) × (take s.count s.steps ++ replicate (96 - s.count) no_step ≡ s.steps) × All (λ x. x.axis < 4) (take s.count s.steps) };
+
+    ghost inverse = { λ xs. record { steps = xs ++ replicate (96 - length xs) no_step; count = length xs } };
 }
 
 impl Stairs {
+    #[tactic(auto, using(crate::proofs::Padded::defaults))]
     pub fn new() -> Self
         ensures { result ≡ [] }
     {
         Stairs {
-            steps: ArrayVec::new(),
+            steps: [Step::default(); 96],
+            count: 0,
         }
     }
 
@@ -52,7 +58,8 @@ impl Stairs {
         requires room { length self.old < 96 }
         ensures { self.new ≡ self.old ++ step ∷ [] }
     {
-        self.steps.push(step);
+        self.steps[self.count] = step;
+        self.count += 1;
     }
 
     pub fn as_slice(&self) -> &[Step]
@@ -60,6 +67,6 @@ impl Stairs {
         ensures axes { All (λ s. s.axis < 4) result.now }
         ensures few { length result.now ≤ 96 }
     {
-        self.steps.as_slice()
+        &self.steps[..self.count]
     }
 }

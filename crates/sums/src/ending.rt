@@ -40,7 +40,7 @@ pub fn store(grid: &mut [f64], scratch: &mut [f64], sums: Sums) -> Result<(), Re
     let g = grid.len();
     let finite = finite_sums(&scratch[g..], sums);
     if finite.is_ok() {
-        grid.copy_from_slice(&scratch[g..]);
+        slices::copy(grid, &scratch[g..]);
     }
     slices::clear(scratch);
     finite
